@@ -1,0 +1,5 @@
+pub mod Bytes
+pub mod Interval
+pub mod Floor
+pub mod Radix
+pub mod Tests

@@ -1,0 +1,125 @@
+-- Laws of a file that parses.
+--     variables-most, transitions-most, nodes-least, nodes-most, edges-most     its counts lie within their limits
+--     variable-fields, edge-fields     each variable's and each edge's record passed its test
+--     variable-range     a variable's range is not empty
+--     edges-end      the edges, of one record each, end the file
+--     edge-new       no edge repeats an earlier one
+-- Assumes nothing.
+use mathlib.Core.Path.{_≡_, refl}
+use mathlib.Core.Bool.{Bool, true, false, cond, _&&_, _||_, and-eq-true-iff}
+use mathlib.Core.List.{List}
+use Prim.Native.Nat.{ℕ, zero, suc, _+_, _-_, _*_, _/_, _<_, _≤_}
+use native.Mathlib.Omega.{arith}
+use borrow.Author.Tests.{leb-true}
+use lib.ListN.{length}
+use lib.Dec.{leb, eqb}
+use lib.Signed.{leZ, _≤ℤ_}
+use Rattle.integers.proofs.Parts.{parts-≤, leZ-true}
+use Rattle.parsing.specs.declared.walk.Walked.{Walked}
+use Rattle.parsing.specs.declared.outline.Outline.{Outline}
+use Rattle.parsing.specs.Record.{fieldA, fieldB, valueB, valueC, zerosOf, sameBytes}
+use Rattle.parsing.specs.Walk.{truthOf}
+use Rattle.parsing.specs.Section.{noFields, variableFields, transitionFields, propertyFields, edgeFields, variablesOf, transitionOf, transitionsOf, leastNodes, mostNodes, nodesOf, repeatedOf, edgesOf}
+use Rattle.parsing.proofs.Laws.Section.{items-most, items-single, single-nth}
+use Rattle.parsing.proofs.Laws.Outline.{Parses}
+
+-- ---- the number of nodes that a property allows
+module _ (file : List ℕ) (at : ℕ) where
+  -- the test of a wait-for's b, and what it is chosen against
+  phases : (b other : Bool) → cond b (leb 1 (fieldB file at) && leb (fieldB file at) 32 && zerosOf file (8 * at + 4) 4) other ≡ true
+      → (1 ≤ cond b (fieldB file at) 1) × (cond b (fieldB file at) 32 ≤ 32)
+  phases true other e =
+      let p = and-eq-true-iff (leb 1 (fieldB file at) && leb (fieldB file at) 32) (zerosOf file (8 * at + 4) 4) .0 e in
+      let q = and-eq-true-iff (leb 1 (fieldB file at)) (leb (fieldB file at) 32) .0 (p .0) in
+      (leb-true 1 (fieldB file at) (q .0), leb-true (fieldB file at) 32 (q .1))
+  phases false other e = (omega arith, omega arith)
+
+  pub property-nodes : propertyFields file at ≡ true → (1 ≤ leastNodes file at) × (mostNodes file at ≤ 32)
+  unfolding propertyFields leastNodes mostNodes
+  property-nodes e = phases (eqb (fieldA file at) 2) ((eqb (fieldA file at) 1 || eqb (fieldA file at) 3) && zerosOf file (8 * at + 2) 6) e
+
+-- ---- an edge's own test
+repeat-single : (i e : ℕ) (b : Bool) → cond b (Walked.Refused 6 i) (Walked.End (i + 1)) ≡ Walked.End e → e ≡ i + 1
+repeat-single i e true q = let z : _≡_ {A = ℕ} 0 1 = cc in absurd (omega arith)
+repeat-single i e false q = cc
+
+repeat-new : (i e : ℕ) (b : Bool) → cond b (Walked.Refused 6 i) (Walked.End (i + 1)) ≡ Walked.End e → b ≡ false
+repeat-new i e true q = let z : _≡_ {A = ℕ} 0 1 = cc in absurd (omega arith)
+repeat-new i e false q = refl
+
+or-false-both : (a b : Bool) → (a || b) ≡ false → (a ≡ false) × (b ≡ false)
+or-false-both true b e = let z : _≡_ {A = ℕ} 0 1 = cc in absurd (omega arith)
+or-false-both false b e = (refl, e)
+
+repeated-false : (file : List ℕ) (at first n : ℕ) → repeatedOf file at first n ≡ false → (i : ℕ) → i < n → sameBytes file (8 * (first + i) + 1) (8 * at + 1) 5 ≡ false
+unfolding repeatedOf
+repeated-false file at first zero e i l = absurd (omega arith)
+repeated-false file at first (suc n) e zero l =
+    let z : first + 0 ≡ first = omega arith in
+    rw z (or-false-both (sameBytes file (8 * first + 1) (8 * at + 1) 5) (repeatedOf file at (first + 1) n) e .0)
+repeated-false file at first (suc n) e (suc i) l =
+    let z : first + suc i ≡ first + 1 + i = omega arith in
+    rw z (repeated-false file at (first + 1) n (or-false-both (sameBytes file (8 * first + 1) (8 * at + 1) 5) (repeatedOf file at (first + 1) n) e .1) i (omega arith))
+
+module _ (file : List ℕ) (o : Outline) (p : Parses file o) where
+  -- ---- counts
+  pub variables-most : o .vars ≤ 12
+  unfolding variablesOf
+  variables-most = items-most file 0x01 (variableFields file) (λ at. Walked.End (at + 1)) (o .vars) (o .vars) 12 0 0 (p .variables)
+
+  pub transitions-most : o .transitions ≤ 32
+  unfolding transitionsOf
+  transitions-most = items-most file 0x03 (transitionFields file) (transitionOf file (o .vars)) (o .transitions) (o .property) 32 0 (o .transition) (p .transitions)
+
+  pub nodes-least : 1 ≤ o .nodes
+  nodes-least = let z = property-nodes file (o .property) (p .property-right) .0 in omega (arith, p .enough)
+
+  pub nodes-most : o .nodes ≤ 32
+  unfolding nodesOf
+  nodes-most =
+      let z = property-nodes file (o .property) (p .property-right) .1 in
+      let y = items-most file 0x06 (noFields file) (λ i. truthOf file (o .vars) (i + 1)) (o .nodes) (o .edge) (mostNodes file (o .property)) 0 (o .node) (p .nodes) in
+      omega arith
+
+  abbrev edge : ℕ → Walked
+  edge i = cond (repeatedOf file i (o .edge) (i - o .edge)) (Walked.Refused 6 i) (Walked.End (i + 1))
+
+  edge-single : (i e : ℕ) → edge i ≡ Walked.End e → e ≡ i + 1
+  edge-single i e = repeat-single i e (repeatedOf file i (o .edge) (i - o .edge))
+
+  pub edges-most : o .edges ≤ 512
+  unfolding edgesOf
+  edges-most = items-most file 0x07 (edgeFields file (o .transitions) (o .nodes)) edge (o .edges) (length file / 8) 512 0 (o .edge) (p .edges)
+
+  pub edges-end : length file / 8 ≡ o .edge + o .edges
+  unfolding edgesOf
+  edges-end =
+      let z = items-single file 0x07 (edgeFields file (o .transitions) (o .nodes)) edge edge-single (o .edges) (length file / 8) 512 0 (o .edge) (p .edges) in
+      omega arith
+
+  -- ---- variables and edges
+  pub variable-fields : (v : ℕ) → v < o .vars → variableFields file v ≡ true
+  unfolding variablesOf
+  variable-fields v l =
+      let n = single-nth file 0x01 (variableFields file) (λ at. Walked.End (at + 1)) (λ i e q. cc) (o .vars) (o .vars) 12 0 (p .variables) v l .0 in
+      let z : 0 + v ≡ v = omega arith in
+      rw z at n
+
+  -- its range is not empty
+  pub variable-range : (v : ℕ) → v < o .vars → valueB file v ≤ℤ valueC file v
+  unfolding variableFields
+  variable-range v l =
+      let z = and-eq-true-iff (zerosOf file (8 * v + 1) 1 && zerosOf file (8 * v + 6) 2) (leZ (valueB file v) (valueC file v)) .0 (variable-fields v l) in
+      parts-≤ (valueB file v) (valueC file v) (leZ-true (valueB file v) (valueC file v) (z .1))
+
+  edge-both : (e : ℕ) → e < o .edges → (edgeFields file (o .transitions) (o .nodes) (o .edge + e) ≡ true) × (edge (o .edge + e) ≡ Walked.End (o .edge + e + 1))
+  unfolding edgesOf
+  edge-both e l = single-nth file 0x07 (edgeFields file (o .transitions) (o .nodes)) edge edge-single (o .edges) (length file / 8) 512 (o .edge) (p .edges) e l
+
+  pub edge-fields : (e : ℕ) → e < o .edges → edgeFields file (o .transitions) (o .nodes) (o .edge + e) ≡ true
+  edge-fields e l = edge-both e l .0
+
+  pub edge-new : (i j : ℕ) → i < j → j < o .edges → sameBytes file (8 * (o .edge + i) + 1) (8 * (o .edge + j) + 1) 5 ≡ false
+  edge-new i j l m =
+      let at = o .edge + j in
+      repeated-false file at (o .edge) (at - o .edge) (repeat-new at (at + 1) (repeatedOf file at (o .edge) (at - o .edge)) (edge-both j m .1)) i (omega arith)

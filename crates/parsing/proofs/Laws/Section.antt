@@ -1,0 +1,217 @@
+-- What a section that was counted holds, and where its items stand.
+--     kind-here          a record of a kind is in the file
+--     items-most         no more items than it may
+--     items-single       where items of one record each end
+--     single-nth         such an item passed its tests
+--     items-reach, sequence-reach         each item and each part: where it is, by those before it, that it passed its tests, and what holds there
+--     items-through, sequence-through     what holds at the first holds behind the last
+--     assignments-bound, transition-bound, transitions-bound     each ends behind its first record and within the file
+-- Assumes nothing.
+use mathlib.Core.Path.{_≡_, refl, ap, subst, _∙_}
+use mathlib.Core.Bool.{Bool, true, false, cond, and-eq-true-iff}
+use mathlib.Core.List.{List}
+use Prim.Native.Nat.{ℕ, zero, suc, _+_, _/_, _<_, _≤_}
+use native.Mathlib.Omega.{arith}
+use borrow.Author.Tests.{ltb-true}
+use lib.ListN.{length, getD, set, replicate}
+use lib.Dec.{ltb, eqb}
+use Rattle.parsing.specs.declared.walk.Walked.{Walked}
+use Rattle.parsing.specs.declared.walk.Walked.the-variants.{End, Refused}
+use Rattle.parsing.specs.declared.sections.Section.{Section}
+use Rattle.parsing.specs.Record.{kindAt, fieldA, kindIs}
+use Rattle.parsing.specs.Kind.{number, truth}
+use Rattle.parsing.specs.Walk.{andThen, inSequence, walkOf}
+use Rattle.parsing.specs.Section.{assignmentFields, andItems, itemsOf, assignmentsOf, transitionOf}
+use Rattle.parsing.proofs.Laws.Walk.{walk-bound, sequence-bound}
+
+-- a record of a kind is in the file
+pub kind-here : (file : List ℕ) (kind at : ℕ) → kindIs file kind at ≡ true → at < length file / 8
+unfolding kindIs
+kind-here file kind at e = ltb-true at (length file / 8) (and-eq-true-iff (ltb at (length file / 8)) (eqb (kindAt file at) kind) .0 e .0)
+
+-- ---- items in sequence, with what holds where each begins
+module _ (file : List ℕ) (kind : ℕ) (fields : ℕ → Bool) (item : ℕ → Walked) (P : ℕ → Type 0)
+    (step : (i x : ℕ) → kindIs file kind i ≡ true → item i ≡ End x → P i → P x) where
+  -- the item that i others lie before, from `at` on
+  pub record Reached (i at : ℕ) : Type 0 where
+    pub place : ℕ
+    pub end : ℕ
+    pub reached : inSequence item i at ≡ End place
+    pub named : kindIs file kind place ≡ true
+    pub right : fields place ≡ true
+    pub ends : item place ≡ End end
+    pub holds : P place
+
+  module _ (m end : ℕ) where
+    last : (n at : ℕ) (k f : Bool) → cond k (cond f (Section.Refused 5 at) (Section.Refused 4 at)) (Section.Items n at) ≡ Section.Items m end → (at ≡ end) × (n ≡ m)
+    last n at true true e = let z : _≡_ {A = ℕ} 0 1 = cc in absurd (omega arith)
+    last n at true false e = let z : _≡_ {A = ℕ} 0 1 = cc in absurd (omega arith)
+    last n at false f e = (cc, cc)
+
+    through-next : (n at : ℕ) (next : ℕ → Section) → ((x : ℕ) → next x ≡ Section.Items m end → P x → P end) → (k f : Bool) (w : Walked) → kindIs file kind at ≡ k → item at ≡ w
+        → cond k (cond f (andItems w next) (Section.Refused 4 at)) (Section.Items n at) ≡ Section.Items m end → P at → P end
+    through-next n at next h true true (Walked.End x) k w e p = h x e (step at x k w p)
+    through-next n at next h true true (Walked.Refused number place) k w e p = let z : _≡_ {A = ℕ} 0 1 = cc in absurd (omega arith)
+    through-next n at next h true false w k is e p = let z : _≡_ {A = ℕ} 0 1 = cc in absurd (omega arith)
+    through-next n at next h false f w k is e p = let z : at ≡ end = cc in subst P z p
+
+    pub items-through : (left n at : ℕ) → itemsOf file kind fields item left n at ≡ Section.Items m end → P at → P end
+    unfolding itemsOf
+    items-through zero n at e p = subst P (last n at (kindIs file kind at) (fields at) e .0) p
+    items-through (suc left) n at e p =
+        through-next n at (itemsOf file kind fields item left (n + 1)) (items-through left (n + 1)) (kindIs file kind at) (fields at) (item at) refl refl e p
+
+    reach-next : (left n at : ℕ) (k f : Bool) (w : Walked) → kindIs file kind at ≡ k → fields at ≡ f → item at ≡ w
+        → cond k (cond f (andItems w (itemsOf file kind fields item left (n + 1))) (Section.Refused 4 at)) (Section.Items n at) ≡ Section.Items m end
+        → ((x i : ℕ) → itemsOf file kind fields item left (n + 1) x ≡ Section.Items m end → P x → n + 1 + i < m → Reached i x)
+        → P at → (i : ℕ) → n + i < m → Reached i at
+    unfolding inSequence
+    reach-next left n at true true (Walked.End x) k f w e h p zero l = record { place = at; end = x; reached = refl; named = k; right = f; ends = w; holds = p }
+    reach-next left n at true true (Walked.End x) k f w e h p (suc i) l =
+        let r = h x i e (step at x k w p) (omega arith) in
+        record { place = r .place; end = r .end; reached = rw w (r .reached); named = r .named; right = r .right; ends = r .ends; holds = r .holds }
+    reach-next left n at true true (Walked.Refused number place) k f w e h p i l = let z : _≡_ {A = ℕ} 0 1 = cc in absurd (omega arith)
+    reach-next left n at true false w k f is e h p i l = let z : _≡_ {A = ℕ} 0 1 = cc in absurd (omega arith)
+    reach-next left n at false f w k is it e h p i l = let z : n ≡ m = cc in absurd (omega arith)
+
+    pub items-reach : (left n at : ℕ) → itemsOf file kind fields item left n at ≡ Section.Items m end → P at → (i : ℕ) → n + i < m → Reached i at
+    unfolding itemsOf
+    items-reach zero n at e p i l = let z = last n at (kindIs file kind at) (fields at) e .1 in absurd (omega arith)
+    items-reach (suc left) n at e p i l =
+        reach-next left n at (kindIs file kind at) (fields at) (item at) refl refl refl e (λ x j q r. items-reach left (n + 1) x q r j) p i l
+
+-- parts in sequence, with what holds where each begins
+module _ (part : ℕ → Walked) (P : ℕ → Type 0) (step : (i x : ℕ) → part i ≡ End x → P i → P x) (end : ℕ) where
+  pub record Part (i at : ℕ) : Type 0 where
+    pub place : ℕ
+    pub behind : ℕ
+    pub reached : inSequence part i at ≡ End place
+    pub ends : part place ≡ End behind
+    pub holds : P place
+
+  sequence-next : (n at : ℕ) (w : Walked) → part at ≡ w → ((x : ℕ) → inSequence part n x ≡ End end → P x → P end) → andThen w (inSequence part n) ≡ End end → P at → P end
+  sequence-next n at (Walked.End x) is h e p = h x e (step at x is p)
+  sequence-next n at (Walked.Refused number place) is h e p = let z : _≡_ {A = ℕ} 0 1 = cc in absurd (omega arith)
+
+  pub sequence-through : (n at : ℕ) → inSequence part n at ≡ End end → P at → P end
+  unfolding inSequence
+  sequence-through zero at e p = let z : at ≡ end = cc in subst P z p
+  sequence-through (suc n) at e p = sequence-next n at (part at) refl (sequence-through n) e p
+
+  part-next : (n at : ℕ) (w : Walked) → part at ≡ w → ((x : ℕ) → inSequence part n x ≡ End end → P x → (i : ℕ) → i < n → Part i x) → andThen w (inSequence part n) ≡ End end → P at
+      → (i : ℕ) → i < suc n → Part i at
+  unfolding inSequence
+  part-next n at (Walked.End x) is h e p zero l = record { place = at; behind = x; reached = refl; ends = is; holds = p }
+  part-next n at (Walked.End x) is h e p (suc i) l =
+      let r = h x e (step at x is p) i (omega arith) in
+      record { place = r .place; behind = r .behind; reached = rw is (r .reached); ends = r .ends; holds = r .holds }
+  part-next n at (Walked.Refused number place) is h e p i l = let z : _≡_ {A = ℕ} 0 1 = cc in absurd (omega arith)
+
+  pub sequence-reach : (n at : ℕ) → inSequence part n at ≡ End end → P at → (i : ℕ) → i < n → Part i at
+  unfolding inSequence
+  sequence-reach zero at e p i l = absurd (omega arith)
+  sequence-reach (suc n) at e p i l = part-next n at (part at) refl (sequence-reach n) e p i l
+
+-- a section holds no more items than it may
+module _ (file : List ℕ) (kind : ℕ) (fields : ℕ → Bool) (item : ℕ → Walked) (m end : ℕ) where
+  most-last : (n at : ℕ) (k f : Bool) → cond k (cond f (Section.Refused 5 at) (Section.Refused 4 at)) (Section.Items n at) ≡ Section.Items m end → m ≤ n + 0
+  most-last n at true true e = let z : _≡_ {A = ℕ} 0 1 = cc in absurd (omega arith)
+  most-last n at true false e = let z : _≡_ {A = ℕ} 0 1 = cc in absurd (omega arith)
+  most-last n at false f e = let z : n ≡ m = cc in omega arith
+
+  most-more : (left n at : ℕ) (next : ℕ → Section) → ((i : ℕ) → next i ≡ Section.Items m end → m ≤ n + 1 + left) → (k f : Bool) (w : Walked)
+      → cond k (cond f (andItems w next) (Section.Refused 4 at)) (Section.Items n at) ≡ Section.Items m end → m ≤ n + suc left
+  most-more left n at next h true true (Walked.End i) e = let z = h i e in omega arith
+  most-more left n at next h true true (Walked.Refused number place) e = let z : _≡_ {A = ℕ} 0 1 = cc in absurd (omega arith)
+  most-more left n at next h true false w e = let z : _≡_ {A = ℕ} 0 1 = cc in absurd (omega arith)
+  most-more left n at next h false f w e = let z : n ≡ m = cc in omega arith
+
+  pub items-most : (left n at : ℕ) → itemsOf file kind fields item left n at ≡ Section.Items m end → m ≤ n + left
+  unfolding itemsOf
+  items-most zero n at e = most-last n at (kindIs file kind at) (fields at) e
+  items-most (suc left) n at e =
+      most-more left n at (itemsOf file kind fields item left (n + 1)) (items-most left (n + 1)) (kindIs file kind at) (fields at) (item at) e
+
+-- items of one record each
+module _ (file : List ℕ) (kind : ℕ) (fields : ℕ → Bool) (item : ℕ → Walked) (single : (i e : ℕ) → item i ≡ End e → e ≡ i + 1) (m end : ℕ) where
+  single-last : (n at : ℕ) (k f : Bool) → cond k (cond f (Section.Refused 5 at) (Section.Refused 4 at)) (Section.Items n at) ≡ Section.Items m end → end + n ≡ at + m
+  single-last n at true true e = let z : _≡_ {A = ℕ} 0 1 = cc in absurd (omega arith)
+  single-last n at true false e = let z : _≡_ {A = ℕ} 0 1 = cc in absurd (omega arith)
+  single-last n at false f e = let z : n ≡ m = cc in let y : at ≡ end = cc in omega arith
+
+  single-more : (n at : ℕ) (next : ℕ → Section) → ((i : ℕ) → next i ≡ Section.Items m end → end + (n + 1) ≡ i + m) → (k f : Bool) (w : Walked) → item at ≡ w
+      → cond k (cond f (andItems w next) (Section.Refused 4 at)) (Section.Items n at) ≡ Section.Items m end → end + n ≡ at + m
+  single-more n at next h true true (Walked.End i) is e = let z = h i e in let y = single at i is in omega arith
+  single-more n at next h true true (Walked.Refused number place) is e = let z : _≡_ {A = ℕ} 0 1 = cc in absurd (omega arith)
+  single-more n at next h true false w is e = let z : _≡_ {A = ℕ} 0 1 = cc in absurd (omega arith)
+  single-more n at next h false f w is e = let z : n ≡ m = cc in let y : at ≡ end = cc in omega arith
+
+  pub items-single : (left n at : ℕ) → itemsOf file kind fields item left n at ≡ Section.Items m end → end + n ≡ at + m
+  unfolding itemsOf
+  items-single zero n at e = single-last n at (kindIs file kind at) (fields at) e
+  items-single (suc left) n at e =
+      single-more n at (itemsOf file kind fields item left (n + 1)) (items-single left (n + 1)) (kindIs file kind at) (fields at) (item at) refl e
+
+-- ---- transitions
+module _ (file : List ℕ) (vars end : ℕ) where
+  assign-last : (at : ℕ) (k f : Bool) → cond k (cond f (Refused 6 at) (Refused 4 at)) (End at) ≡ End end → at ≡ end
+  assign-last at true true e = let z : _≡_ {A = ℕ} 0 1 = cc in absurd (omega arith)
+  assign-last at true false e = let z : _≡_ {A = ℕ} 0 1 = cc in absurd (omega arith)
+  assign-last at false f e = cc
+
+  assign-more : (at : ℕ) (next : ℕ → Walked) → ((i : ℕ) → i ≤ length file / 8 → next i ≡ End end → (i ≤ end) × (end ≤ length file / 8)) → at ≤ length file / 8
+      → (k f d : Bool) (w : Walked) → walkOf file vars 16 number (at + 1) ≡ w
+      → cond k (cond f (cond d (andThen w next) (Refused 6 at)) (Refused 4 at)) (End at) ≡ End end → (at ≤ end) × (end ≤ length file / 8)
+  assign-more at next h l true true true (Walked.End i) is e =
+      let a = walk-bound file vars 16 number (at + 1) i is in
+      let b = h i (a .1) e in
+      omega arith
+  assign-more at next h l true true true (Walked.Refused n p) is e = let z : _≡_ {A = ℕ} 0 1 = cc in absurd (omega arith)
+  assign-more at next h l true true false w is e = let z : _≡_ {A = ℕ} 0 1 = cc in absurd (omega arith)
+  assign-more at next h l true false d w is e = let z : _≡_ {A = ℕ} 0 1 = cc in absurd (omega arith)
+  assign-more at next h l false f d w is e = let z : at ≡ end = cc in omega arith
+
+  pub assignments-bound : (left : ℕ) (assigned : List ℕ) (at : ℕ) → at ≤ length file / 8 → assignmentsOf file vars left assigned at ≡ End end → (at ≤ end) × (end ≤ length file / 8)
+  unfolding assignmentsOf
+  assignments-bound zero assigned at l e = let z = assign-last at (kindIs file 0x04 at) (assignmentFields file vars at) e in omega arith
+  assignments-bound (suc left) assigned at l e =
+      assign-more at (assignmentsOf file vars left (set assigned (fieldA file at) 1)) (assignments-bound left (set assigned (fieldA file at) 1)) l
+      (kindIs file 0x04 at) (assignmentFields file vars at) (eqb (getD assigned (fieldA file at) 0) 0) (walkOf file vars 16 number (at + 1)) refl e
+
+  guarded : (at : ℕ) (w : Walked) → walkOf file vars 16 truth (at + 1) ≡ w → andThen w (assignmentsOf file vars 12 (replicate 12 0)) ≡ End end → (at < end) × (end ≤ length file / 8)
+  guarded at (Walked.End i) is e =
+      let a = walk-bound file vars 16 truth (at + 1) i is in
+      let b = assignments-bound 12 (replicate 12 0) i (a .1) e in
+      omega arith
+  guarded at (Walked.Refused n p) is e = let z : _≡_ {A = ℕ} 0 1 = cc in absurd (omega arith)
+
+  pub transition-bound : (at : ℕ) → transitionOf file vars at ≡ End end → (at < end) × (end ≤ length file / 8)
+  unfolding transitionOf
+  transition-bound at e = guarded at (walkOf file vars 16 truth (at + 1)) refl e
+
+-- behind t transitions in turn
+pub transitions-bound : (file : List ℕ) (vars t first end : ℕ) → first ≤ length file / 8 → inSequence (transitionOf file vars) t first ≡ End end → end ≤ length file / 8
+transitions-bound file vars t first end l e =
+    let b = sequence-bound (transitionOf file vars) (length file / 8) (λ i x. transition-bound file vars x i) t first end l e in
+    b .1
+
+-- ---- parts of one record each
+module _ (part : ℕ → Walked) (single : (i e : ℕ) → part i ≡ End e → e ≡ i + 1) (end : ℕ) where
+  single-next : (n at : ℕ) (w : Walked) → part at ≡ w → ((x : ℕ) → inSequence part n x ≡ End end → end ≡ x + n) → andThen w (inSequence part n) ≡ End end → end ≡ at + suc n
+  single-next n at (Walked.End x) is h e = let a = h x e in let b = single at x is in omega arith
+  single-next n at (Walked.Refused number place) is h e = let z : _≡_ {A = ℕ} 0 1 = cc in absurd (omega arith)
+
+  pub sequence-single : (n at : ℕ) → inSequence part n at ≡ End end → end ≡ at + n
+  unfolding inSequence
+  sequence-single zero at e = let z : at ≡ end = cc in omega arith
+  sequence-single (suc n) at e = single-next n at (part at) refl (sequence-single n) e
+
+-- an item of one record that passed its test
+module _ (file : List ℕ) (kind : ℕ) (fields : ℕ → Bool) (item : ℕ → Walked) (single : (i e : ℕ) → item i ≡ End e → e ≡ i + 1) where
+  pub single-nth : (m end left at : ℕ) → itemsOf file kind fields item left 0 at ≡ Section.Items m end → (i : ℕ) → i < m
+      → (fields (at + i) ≡ true) × (item (at + i) ≡ End (at + i + 1))
+  single-nth m end left at e i l =
+      let n = items-reach file kind fields item (λ x. Unit {0}) (λ x y k w u. tt) m end left 0 at e tt i (omega arith) in
+      let z = sequence-single item single (n .place) i at (n .reached) in
+      let y = single (n .place) (n .end) (n .ends) in
+      (subst (λ (x : ℕ). fields x ≡ true) z (n .right), subst (λ (x : ℕ). item x ≡ End (x + 1)) z (n .ends ∙ ap End y))

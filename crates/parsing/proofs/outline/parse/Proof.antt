@@ -1,0 +1,56 @@
+-- `parsing::outline::parse` meets its contract, by the tests passed.
+-- Assumes nothing.
+use borrow.Author.Tests.{eq-eqb, ne-eqb, le-leb, lt-leb}
+use mathlib.Core.Path.{sym, _∙_}
+use Rattle.parsing.specs.Section.{variablesOf}
+use Rattle.parsing.specs.Outline.{parsedOf}
+use Rattle.parsing.proofs.Laws.Section.{items-most}
+use borrow.Author.Needs.{needs}
+use Rattle.parsing.proofs.outline.parse.Statement.{statement}
+use Rattle.parsing.proofs.outline.parse.Tie as tie
+use Rattle.parsing.proofs.outline.parse.Reads as reads
+use Rattle.parsing.proofs.outline.parse.Lts as lts
+use Rattle.parsing.proofs.outline.parse_start.Reads as parse-start-reads
+use Rattle.parsing.proofs.sections.variables.Reads as variables-reads
+
+returns : tie.Need-returns
+unfolding parsedOf
+returns c = simp (ne-eqb _ _ (c .if1 .taken))
+
+returns-2 : tie.Need-returns-2
+unfolding parsedOf
+returns-2 c = simp (eq-eqb _ _ (c .before .if1 .left), lt-leb _ _ (c .if2 .taken))
+
+variables-requires : tie.Need-variables-requires
+variables-requires c κs = search needs
+
+enum-known-found : tie.Need-enum-known-found
+enum-known-found c = search needs
+
+parse-start-requires : tie.Need-parse-start-requires
+unfolding variablesOf
+parse-start-requires c κs = items-most _ _ _ _ _ _ 12 0 0 (sym (c .before .before .before .variables .ensures) ∙ c .before .found .given .1)
+
+enum-known-found-2 : tie.Need-enum-known-found-2
+enum-known-found-2 c = search needs
+
+returns-3 : tie.Need-returns-3
+unfolding parsedOf
+returns-3 c = simp (eq-eqb _ _ (c .before .before .before .before .before .before .if1 .left), le-leb _ _ (c .before .before .before .before .before .if2 .left), sym (c .before .before .before .before .variables .ensures) ∙ c .before .before .found .given .1) (c .parse-start .ensures)
+
+returns-4 : tie.Need-returns-4
+unfolding parsedOf
+returns-4 c = simp (eq-eqb _ _ (c .before .before .before .before .before .if1 .left), le-leb _ _ (c .before .before .before .before .if2 .left), sym (c .before .before .before .variables .ensures) ∙ c .before .found2 .given .1)
+
+pub parse-spec : {M : Type 1} → statement M
+parse-spec =
+    tie.close
+    (tie.spec
+    returns
+    returns-2
+    variables-requires
+    enum-known-found
+    parse-start-requires
+    enum-known-found-2
+    returns-3
+    returns-4)

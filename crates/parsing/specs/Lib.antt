@@ -1,0 +1,6 @@
+-- What a file is, in the order in which it is read.
+pub mod Record
+pub mod Kind
+pub mod Walk
+pub mod Section
+pub mod Outline

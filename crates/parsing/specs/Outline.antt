@@ -1,0 +1,61 @@
+-- Parsed a whole file, section by section: refusals 2 to 6, or where its parts stand.
+use Prim.Native.Nat.{ℕ, _+_, _/_, _%_}
+use mathlib.Core.Bool.{cond, _&&_}
+use mathlib.Core.List.{List}
+use lib.ListN.{length}
+use lib.Dec.{leb, eqb}
+use Rattle.parsing.specs.declared.walk.Walked.{Walked}
+use Rattle.parsing.specs.declared.sections.Section.{Section}
+use Rattle.parsing.specs.declared.outline.Parsed.{Parsed}
+use Rattle.parsing.specs.Record.{kindIs}
+use Rattle.parsing.specs.Walk.{inSequence, truthOf}
+use Rattle.parsing.specs.Section.{noFields, propertyFields, variablesOf, transitionsOf, expressionsOf, leastNodes, mostNodes, nodesOf, edgesOf}
+
+-- the file goes on behind a part or a section that ends, or its refusal stands
+abbrev pub andParse : Walked → (ℕ → Parsed) → Parsed
+andParse (Walked.End end) next = next end
+andParse (Walked.Refused number place) next = Parsed.Refused number place
+
+abbrev pub andSection : Section → (ℕ → ℕ → Parsed) → Parsed
+andSection (Section.Items n end) next = next n end
+andSection (Section.Refused number place) next = Parsed.Refused number place
+
+-- the edges, from `edge` on, to the file's end
+unfoldable pub edgesParsed : List ℕ → ℕ → ℕ → ℕ → ℕ → ℕ → ℕ → ℕ → Parsed
+edgesParsed file vars transition transitions property node nodes edge =
+    andSection (edgesOf file transitions nodes edge) λ edges end.
+    cond (eqb end (length file / 8))
+    (Parsed.Whole (record { vars = vars; transition = transition; transitions = transitions; property = property; node = node; nodes = nodes; edge = edge; edges = edges }))
+    (Parsed.Refused 3 end)
+
+-- the nodes, from `node` on
+unfoldable pub nodesParsed : List ℕ → ℕ → ℕ → ℕ → ℕ → ℕ → Parsed
+nodesParsed file vars transition transitions property node =
+    andSection (nodesOf file vars (mostNodes file property) node) λ nodes edge.
+    cond (leb (leastNodes file property) nodes)
+    (edgesParsed file vars transition transitions property node nodes edge)
+    (Parsed.Refused 3 edge)
+
+unfoldable pub propertyParsed : List ℕ → ℕ → ℕ → ℕ → ℕ → Parsed
+propertyParsed file vars transition transitions property =
+    cond (kindIs file 0x05 property)
+    (cond (propertyFields file property)
+    (andParse (inSequence (truthOf file vars) (expressionsOf file property) (property + 1)) (nodesParsed file vars transition transitions property))
+    (Parsed.Refused 4 property))
+    (Parsed.Refused 3 property)
+
+unfoldable pub transitionsParsed : List ℕ → ℕ → ℕ → Parsed
+transitionsParsed file vars transition = andSection (transitionsOf file vars transition) (propertyParsed file vars transition)
+
+-- the start, behind one variable or more
+unfoldable pub startParsed : List ℕ → ℕ → ℕ → Parsed
+startParsed file vars at =
+    cond (leb 1 vars && kindIs file 0x02 at)
+    (cond (noFields file at) (andParse (truthOf file vars (at + 1)) (transitionsParsed file vars)) (Parsed.Refused 4 at))
+    (Parsed.Refused 3 at)
+
+unfoldable pub parsedOf : List ℕ → Parsed
+parsedOf file =
+    cond (eqb (length file % 8) 0 && leb (length file) 32768)
+    (andSection (variablesOf file) (startParsed file))
+    (Parsed.Refused 2 0)

@@ -1,0 +1,111 @@
+-- The sections of a file ("The file"): at each record "3 to 6 are tried in that order", first record first.
+use Prim.Native.Nat.{ℕ, zero, suc, _+_, _*_, _-_}
+use mathlib.Core.Bool.{Bool, true, false, cond, _&&_, _||_}
+use mathlib.Core.List.{List}
+use lib.ListN.{getD, set, replicate}
+use lib.Dec.{ltb, leb, eqb}
+use lib.Signed.{leZ}
+use Rattle.parsing.specs.declared.walk.Walked.{Walked}
+use Rattle.parsing.specs.declared.sections.Section.{Section}
+use Rattle.parsing.specs.Record.{fieldA, fieldB, fieldC, fieldD, valueB, valueC, kindIs, zerosOf, sameBytes}
+use Rattle.parsing.specs.Kind.{number, truth}
+use Rattle.parsing.specs.Walk.{andThen, walkOf, truthOf}
+
+-- ---- the fields of a section's records: "A field has a value not allowed, or names a variable, transition or node that the file lacks" (4)
+-- 01 variable: b ≤ c
+unfoldable pub variableFields : List ℕ → ℕ → Bool
+variableFields file at = zerosOf file (8 * at + 1) 1 && zerosOf file (8 * at + 6) 2 && leZ (valueB file at) (valueC file at)
+
+-- 02 start, 06 node: no field
+abbrev pub noFields : List ℕ → ℕ → Bool
+noFields file at = zerosOf file (8 * at + 1) 7
+
+-- 03 transition: a is 0 or 1
+unfoldable pub transitionFields : List ℕ → ℕ → Bool
+transitionFields file at = leb (fieldA file at) 1 && zerosOf file (8 * at + 2) 6
+
+-- 04 assignment: a is a variable
+unfoldable pub assignmentFields : List ℕ → ℕ → ℕ → Bool
+assignmentFields file vars at = ltb (fieldA file at) vars && zerosOf file (8 * at + 2) 6
+
+-- 05 property: a is 1 or 3, or a is 2 and b from 1 to 32
+unfoldable pub propertyFields : List ℕ → ℕ → Bool
+propertyFields file at =
+    cond (eqb (fieldA file at) 2) (leb 1 (fieldB file at) && leb (fieldB file at) 32 && zerosOf file (8 * at + 4) 4)
+    ((eqb (fieldA file at) 1 || eqb (fieldA file at) 3) && zerosOf file (8 * at + 2) 6)
+
+-- 07 edge: a is a transition, b and c are nodes, d is 0 or 1
+unfoldable pub edgeFields : List ℕ → ℕ → ℕ → ℕ → Bool
+edgeFields file transitions nodes at =
+    ltb (fieldA file at) transitions && ltb (fieldB file at) nodes && ltb (fieldC file at) nodes && leb (fieldD file at) 1 && zerosOf file (8 * at + 7) 1
+
+-- ---- sections
+-- a section goes on behind an item that ends, or the item's refusal stands
+abbrev pub andItems : Walked → (ℕ → Section) → Section
+andItems (Walked.End end) next = next end
+andItems (Walked.Refused number place) next = Section.Refused number place
+
+-- items that begin with a record of `kind`, as long as there is one: n before `at`, and at most `left` more. `fields` tests an item's
+-- first record, and `item` walks the item
+unfoldable pub itemsOf : List ℕ → ℕ → (ℕ → Bool) → (ℕ → Walked) → ℕ → ℕ → ℕ → Section
+itemsOf file kind fields item zero n at =
+    cond (kindIs file kind at) (cond (fields at) (Section.Refused 5 at) (Section.Refused 4 at)) (Section.Items n at)
+itemsOf file kind fields item (suc left) n at =
+    cond (kindIs file kind at)
+    (cond (fields at) (andItems (item at) (itemsOf file kind fields item left (n + 1))) (Section.Refused 4 at))
+    (Section.Items n at)
+
+-- 12 variables at most
+unfoldable pub variablesOf : List ℕ → Section
+variablesOf file = itemsOf file 0x01 (variableFields file) (λ at. Walked.End (at + 1)) 12 0 0
+
+-- a transition's assignments. `assigned` has 1 at each variable that was assigned; after 12 of them the next one repeats one
+unfoldable pub assignmentsOf : List ℕ → ℕ → ℕ → List ℕ → ℕ → Walked
+assignmentsOf file vars zero assigned at =
+    cond (kindIs file 0x04 at) (cond (assignmentFields file vars at) (Walked.Refused 6 at) (Walked.Refused 4 at)) (Walked.End at)
+assignmentsOf file vars (suc left) assigned at =
+    cond (kindIs file 0x04 at)
+    (cond (assignmentFields file vars at)
+    (cond (eqb (getD assigned (fieldA file at) 0) 0)
+    (andThen (walkOf file vars 16 number (at + 1)) (assignmentsOf file vars left (set assigned (fieldA file at) 1)))
+    (Walked.Refused 6 at))
+    (Walked.Refused 4 at))
+    (Walked.End at)
+
+-- a transition: its guard, then its assignments
+unfoldable pub transitionOf : List ℕ → ℕ → ℕ → Walked
+transitionOf file vars at = andThen (walkOf file vars 16 truth (at + 1)) (assignmentsOf file vars 12 (replicate 12 0))
+
+-- 32 transitions at most
+unfoldable pub transitionsOf : List ℕ → ℕ → ℕ → Section
+transitionsOf file vars at = itemsOf file 0x03 (transitionFields file) (transitionOf file vars) 32 0 at
+
+-- how many expressions follow the property at `at`: q; p, q_0 to q_m; p, q
+unfoldable pub expressionsOf : List ℕ → ℕ → ℕ
+expressionsOf file at = cond (eqb (fieldA file at) 1) 1 (cond (eqb (fieldA file at) 2) (fieldB file at + 1) 2)
+
+-- the bounds of the number of nodes: for wait-for as many as phases, else 1 to 32
+unfoldable pub leastNodes : List ℕ → ℕ → ℕ
+leastNodes file property = cond (eqb (fieldA file property) 2) (fieldB file property) 1
+
+unfoldable pub mostNodes : List ℕ → ℕ → ℕ
+mostNodes file property = cond (eqb (fieldA file property) 2) (fieldB file property) 32
+
+-- a node: its assertion
+abbrev pub nodeOf : List ℕ → ℕ → ℕ → Walked
+nodeOf file vars at = truthOf file vars (at + 1)
+
+unfoldable pub nodesOf : List ℕ → ℕ → ℕ → ℕ → Section
+nodesOf file vars most at = itemsOf file 0x06 (noFields file) (nodeOf file vars) most 0 at
+
+-- one of the n edges from `first` on has the a, b and c of the edge at `at`
+unfoldable pub repeatedOf : List ℕ → ℕ → ℕ → ℕ → Bool
+repeatedOf file at first zero = false
+repeatedOf file at first (suc n) = sameBytes file (8 * first + 1) (8 * at + 1) 5 || repeatedOf file at (first + 1) n
+
+-- 512 edges at most; `first` is the first edge's record
+unfoldable pub edgesOf : List ℕ → ℕ → ℕ → ℕ → Section
+edgesOf file transitions nodes first =
+    itemsOf file 0x07 (edgeFields file transitions nodes)
+    (λ at. cond (repeatedOf file at first (at - first)) (Walked.Refused 6 at) (Walked.End (at + 1)))
+    512 0 first

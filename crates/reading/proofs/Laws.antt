@@ -1,0 +1,9 @@
+-- Laws of the definitions, for the proofs here and in the crates above.
+pub mod Fits
+pub mod Interval
+pub mod Expression
+pub mod Stage
+pub mod States
+pub mod Scan
+pub mod Edge
+pub mod Readable

@@ -1,0 +1,204 @@
+-- The edges of a readable file.
+--     edge-names         each names a transition and nodes that exist
+--     edge-invariance, edge-waiting, edge-chain, edge-double     each obeys the rules of its diagram
+--     double-transition  a chain's node from 1 up has exactly one double transition, and it is just
+-- Assumes nothing.
+use mathlib.Core.Path.{_≡_, refl, sym, _∙_}
+use mathlib.Core.Bool.{Bool, true, false, cond, not, _&&_, _||_, and-eq-true-iff}
+use mathlib.Core.List.{List}
+use Prim.Native.Nat.{ℕ, zero, suc, _+_, _-_, _*_, _<_, _≤_}
+use native.Mathlib.Omega.{arith}
+use borrow.Author.Tests.{eq-eqb, ne-eqb, eqb-true, eqb-false, ltb-true, ltb-false, leb-true, not-true, not-false}
+use lib.Dec.{ltb, leb, eqb}
+use Rattle.parsing.specs.declared.walk.Walked.{Walked}
+use Rattle.parsing.specs.declared.outline.Outline.{Outline}
+use Rattle.parsing.specs.Record.{fieldA, fieldB, fieldC, fieldD, zerosOf}
+use Rattle.parsing.specs.Section.{edgeFields}
+use Rattle.parsing.proofs.Laws.Parsed.{edge-fields}
+use Rattle.reading.specs.Search.{any, refuseFirst}
+use Rattle.reading.specs.Edge.{single, double, diagram, descending, justOf, conflictOf, chainRuleOf, ruleOf, rulesOf, doubleFrom, doubledOf, doublesOf}
+use Rattle.reading.specs.Readable.{Edge, DoubleTransition}
+use Rattle.reading.proofs.Laws.Stage.{Stages}
+
+-- ---- tests in a row
+differ : true ≡ false → ⊥
+differ e = let z : _≡_ {A = ℕ} 0 1 = cc in omega arith
+
+other : (a b : Bool) → (a || b) ≡ true → a ≡ false → b ≡ true
+other true b e f = absurd (differ f)
+other false b e f = e
+
+neither : (a b : Bool) → (a || b) ≡ false → (a ≡ false) × (b ≡ false)
+neither true b e = absurd (differ e)
+neither false b e = (refl, e)
+
+refuse-all : (number : ℕ) (test : ℕ → Bool) (end left at : ℕ) → refuseFirst number test left at ≡ Walked.End end → (i : ℕ) → i < left → test (at + i) ≡ true
+unfolding refuseFirst
+refuse-all number test end zero at e i l = absurd (omega arith)
+refuse-all number test end (suc left) at e i l = go (test at) refl e i l (refuse-all number test end left (at + 1))
+  where
+    go : (b : Bool) → test at ≡ b → cond b (refuseFirst number test left (at + 1)) (Walked.Refused number at) ≡ Walked.End end → (i : ℕ) → i < suc left
+        → (refuseFirst number test left (at + 1) ≡ Walked.End end → (j : ℕ) → j < left → test (at + 1 + j) ≡ true) → test (at + i) ≡ true
+    go true t q zero l h = let z : at + 0 ≡ at = omega arith in rw z t
+    go true t q (suc j) l h = let z : at + suc j ≡ at + 1 + j = omega arith in rw z (h q j (omega arith))
+    go false t q i l h = let z : _≡_ {A = ℕ} 0 1 = cc in absurd (omega arith)
+
+any-false : (test : ℕ → Bool) (n at : ℕ) → any test n at ≡ false → (i : ℕ) → i < n → test (at + i) ≡ false
+unfolding any
+any-false test zero at e i l = absurd (omega arith)
+any-false test (suc n) at e zero l = let z : at + 0 ≡ at = omega arith in rw z (neither (test at) (any test n (at + 1)) e .0)
+any-false test (suc n) at e (suc i) l =
+    let z : at + suc i ≡ at + 1 + i = omega arith in
+    rw z (any-false test n (at + 1) (neither (test at) (any test n (at + 1)) e .1) i (omega arith))
+
+-- one of the n numbers from `at` on that passes a test
+record Some (test : ℕ → Bool) (n at : ℕ) : Type 0 where
+  which : ℕ
+  below : which < n
+  passes : test (at + which) ≡ true
+
+any-some : (test : ℕ → Bool) (n at : ℕ) → any test n at ≡ true → Some test n at
+unfolding any
+any-some test zero at e = absurd (differ (sym e))
+any-some test (suc n) at e = go (test at) refl e (any-some test n (at + 1))
+  where
+    go : (b : Bool) → test at ≡ b → (b || any test n (at + 1)) ≡ true → (any test n (at + 1) ≡ true → Some test n (at + 1)) → Some test (suc n) at
+    go true t q h = record { which = 0; below = omega arith; passes = let z : at + 0 ≡ at = omega arith in rw z t }
+    go false t q h =
+        let s = h q in
+        record { which = s .which + 1; below = omega arith; passes = let z : at + (s .which + 1) ≡ at + 1 + s .which = omega arith in rw z (s .passes) }
+
+module _ (file : List ℕ) (o : Outline) (r : Stages file o) where
+  -- ---- what an edge names
+  pub edge-names : (e : ℕ) → e < o .edges → Edge file o e
+  unfolding edgeFields
+  edge-names e l =
+      let at = o .edge + e in
+      let a = ltb (fieldA file at) (o .transitions) in
+      let b = ltb (fieldB file at) (o .nodes) in
+      let c = ltb (fieldC file at) (o .nodes) in
+      let d = leb (fieldD file at) 1 in
+      let p = and-eq-true-iff (a && b && c && d) (zerosOf file (8 * at + 7) 1) .0 (edge-fields file o (r .parsed) e l) in
+      let q = and-eq-true-iff (a && b && c) d .0 (p .0) in
+      let s = and-eq-true-iff (a && b) c .0 (q .0) in
+      let t = and-eq-true-iff a b .0 (s .0) in
+      record { transition = ltb-true _ _ (t .0); from = ltb-true _ _ (t .1); to = ltb-true _ _ (s .1); double = leb-true _ _ (q .1) }
+
+  -- ---- the rule that it obeys
+  edge-obeys : (e : ℕ) → e < o .edges → ruleOf file o (o .edge + e) ≡ true
+  unfolding rulesOf
+  edge-obeys e l = refuse-all 9 (ruleOf file o) (r .rules .end) (o .edges) (o .edge) (r .rules .is) e l
+
+  -- "Invariance: single only."
+  pub edge-invariance : diagram file o ≡ 1 → (e : ℕ) → e < o .edges → fieldD file (o .edge + e) ≡ 0
+  unfolding ruleOf
+  edge-invariance i e l = eqb-true _ _ (simp (eq-eqb _ _ i) at (edge-obeys e l))
+
+  -- "from node 1 up, target not above source"
+  edge-descending : (diagram file o ≡ 1 → ⊥) → (e : ℕ) → e < o .edges
+      → (1 ≤ fieldB file (o .edge + e)) × (fieldC file (o .edge + e) ≤ fieldB file (o .edge + e))
+      × (cond (eqb (diagram file o) 2) (single file (o .edge + e)) (chainRuleOf file o (o .edge + e)) ≡ true)
+  unfolding ruleOf descending
+  edge-descending n e l =
+      let at = o .edge + e in
+      let b = leb 1 (fieldB file at) in
+      let c = leb (fieldC file at) (fieldB file at) in
+      let p = and-eq-true-iff (b && c) (cond (eqb (diagram file o) 2) (single file at) (chainRuleOf file o at)) .0 (simp (ne-eqb _ _ n) at (edge-obeys e l)) in
+      let q = and-eq-true-iff b c .0 (p .0) in
+      (leb-true _ _ (q .0), leb-true _ _ (q .1), p .1)
+
+  -- "Wait-for: single, from node 1 up, target not above source."
+  pub edge-waiting : diagram file o ≡ 2 → (e : ℕ) → e < o .edges
+      → (1 ≤ fieldB file (o .edge + e)) × (fieldC file (o .edge + e) ≤ fieldB file (o .edge + e)) × (fieldD file (o .edge + e) ≡ 0)
+  edge-waiting w e l =
+      let d = edge-descending (λ z. omega arith) e l in
+      (d .0, d .1, eqb-true _ _ (simp (eq-eqb _ _ w) at (d .2)))
+
+  module _ (c : diagram file o ≡ 3) where
+    chain-rule : (e : ℕ) → e < o .edges → chainRuleOf file o (o .edge + e) ≡ true
+    chain-rule e l =
+        let n : diagram file o ≡ 2 → ⊥ = λ z. omega arith in
+        simp (ne-eqb _ _ n) at (edge-descending (λ z. omega arith) e l .2)
+
+    -- its two parts
+    chain-parts : (e : ℕ) → e < o .edges
+        → (any (λ i. conflictOf file i (o .edge + e)) (o .edge + e - o .edge) (o .edge) ≡ false)
+        × ((single file (o .edge + e) || (ltb (fieldC file (o .edge + e)) (fieldB file (o .edge + e)) && justOf file o (fieldA file (o .edge + e)))) ≡ true)
+    unfolding chainRuleOf
+    chain-parts e l =
+        let at = o .edge + e in
+        let q = and-eq-true-iff (not (any (λ i. conflictOf file i at) (at - o .edge) (o .edge)))
+        (single file at || (ltb (fieldC file at) (fieldB file at) && justOf file o (fieldA file at))) .0 (chain-rule e l) in
+        (not-true _ (q .0), q .1)
+
+    -- "Chain: likewise": from node 1 up, target not above source
+    pub edge-chain : (e : ℕ) → e < o .edges → (1 ≤ fieldB file (o .edge + e)) × (fieldC file (o .edge + e) ≤ fieldB file (o .edge + e))
+    edge-chain e l = let d = edge-descending (λ z. omega arith) e l in (d .0, d .1)
+
+    -- "double strictly down, on just transitions"
+    pub edge-double : (e : ℕ) → e < o .edges → fieldD file (o .edge + e) ≡ 1
+        → (fieldC file (o .edge + e) < fieldB file (o .edge + e)) × (justOf file o (fieldA file (o .edge + e)) ≡ true)
+    edge-double e l d =
+        let at = o .edge + e in
+        let n : fieldD file at ≡ 0 → ⊥ = λ z. omega arith in
+        let p = and-eq-true-iff (ltb (fieldC file at) (fieldB file at)) (justOf file o (fieldA file at)) .0
+        (other (single file at) (ltb (fieldC file at) (fieldB file at) && justOf file o (fieldA file at)) (chain-parts e l .1) (ne-eqb _ _ n)) in
+        (ltb-true _ _ (p .0), p .1)
+
+    -- two edges from one node, the earlier and the later: of one transition both are single or both double, of two not both are double
+    conflict-none : (i j : ℕ) → i < j → j < o .edges → conflictOf file (o .edge + i) (o .edge + j) ≡ false
+    conflict-none i j l m = any-false (λ e. conflictOf file e (o .edge + j)) (o .edge + j - o .edge) (o .edge) (chain-parts j m .0) i (omega arith)
+
+    abbrev Agree : ℕ → ℕ → Type 0
+    Agree x y =
+        (fieldA file x ≡ fieldA file y → fieldD file x ≡ fieldD file y) × (fieldD file x ≡ 1 → fieldD file y ≡ 1 → fieldA file x ≡ fieldA file y)
+
+    agree-by : (x y : ℕ) (t : Bool) → eqb (fieldA file x) (fieldA file y) ≡ t
+        → cond t (not (eqb (fieldD file x) (fieldD file y))) (double file x && double file y) ≡ false → Agree x y
+    agree-by x y true is q = (λ a. eqb-true _ _ (not-false _ q), λ d e. eqb-true _ _ is)
+    agree-by x y false is q =
+        (λ a. absurd (eqb-false _ _ is a), λ d e. absurd (differ (sym (and-eq-true-iff (double file x) (double file y) .1 (eq-eqb _ _ d, eq-eqb _ _ e)) ∙ q)))
+
+    agree-later : (i j : ℕ) → i < j → j < o .edges → fieldB file (o .edge + i) ≡ fieldB file (o .edge + j) → Agree (o .edge + i) (o .edge + j)
+    unfolding conflictOf
+    agree-later i j l m b =
+        agree-by (o .edge + i) (o .edge + j) (eqb (fieldA file (o .edge + i)) (fieldA file (o .edge + j))) refl (simp (eq-eqb _ _ b) at (conflict-none i j l m))
+
+    -- two edges from one node: of one transition both are single or both double, and of two double ones the transition is one
+    agree : (i j : ℕ) → i < o .edges → j < o .edges → fieldB file (o .edge + i) ≡ fieldB file (o .edge + j) → Agree (o .edge + i) (o .edge + j)
+    agree i j l m b = by (ltb i j) (ltb j i) refl refl
+      where
+        by : (p q : Bool) → ltb i j ≡ p → ltb j i ≡ q → Agree (o .edge + i) (o .edge + j)
+        by true q is it = agree-later i j (ltb-true _ _ is) m b
+        by false true is it = let g = agree-later j i (ltb-true _ _ it) l (sym b) in (λ a. sym (g .0 (sym a)), λ d e. sym (g .1 e d))
+        by false false is it =
+            let z : i ≡ j = let x = ltb-false i j is in let y = ltb-false j i it in omega arith in
+            (λ a. rw z, λ d e. rw z)
+
+    node-doubled : (n : ℕ) → 1 ≤ n → n < o .nodes → doubledOf file o n ≡ true
+    unfolding doublesOf
+    node-doubled n k l =
+        let z : 1 + (n - 1) ≡ n = omega arith in
+        rw z at (refuse-all 10 (doubledOf file o) (r .doubles .end) (o .nodes - 1) 1 (simp (eq-eqb _ _ c) at (r .doubles .is)) (n - 1) (omega arith))
+
+    -- "one double transition per node, never also single there; each node from 1 up has a double edge"
+    pub double-transition : (n : ℕ) → 1 ≤ n → n < o .nodes → DoubleTransition file o n
+    unfolding doubledOf doubleFrom
+    double-transition n k l =
+        let s = any-some (doubleFrom file n) (o .edges) (o .edge) (node-doubled n k l) in
+        let at = o .edge + s .which in
+        let p = and-eq-true-iff (double file at) (eqb (fieldB file at) n) .0 (s .passes) in
+        let d : fieldD file at ≡ 1 = eqb-true _ _ (p .0) in
+        let b : fieldB file at ≡ n = eqb-true _ _ (p .1) in
+        record {
+          transition = fieldA file at;
+          there = edge-names (s .which) (s .below) .transition;
+          just = edge-double (s .which) (s .below) d .1;
+          edge = s .which;
+          edge-there = s .below;
+          edge-from = b;
+          edge-double = d;
+          edge-carries = refl;
+          only = λ e m f g. agree e (s .which) m (s .below) (f ∙ sym b) .1 g d;
+          never-single = λ e m f g. agree e (s .which) m (s .below) (f ∙ sym b) .0 g ∙ d;
+        }

@@ -1,0 +1,31 @@
+-- What the code of the later stages asks of an outline holds for a file that parses.
+-- Assumes nothing.
+use mathlib.Core.List.{List}
+use Prim.Native.Nat.{ℕ, _+_, _*_, _/_, _≤_}
+use native.Mathlib.Omega.{arith}
+use lib.ListN.{length}
+use Rattle.parsing.specs.declared.outline.Outline.{Outline}
+use Rattle.parsing.specs.Kind.{truth}
+use Rattle.parsing.proofs.Laws.Walk.{walk-bound}
+use Rattle.parsing.proofs.Laws.Section.{kind-here}
+use Rattle.parsing.proofs.Laws.Outline.{Parses}
+use Rattle.parsing.proofs.Laws.Parsed.{variables-most, variable-range, nodes-most, edges-end}
+use Rattle.reading.specs.States.{Ranges}
+use Rattle.reading.specs.Edge.{Fits}
+
+module _ (file : List ℕ) (o : Outline) (p : Parses file o) where
+  pub ranges : Ranges file (o .vars)
+  ranges = let s = kind-here file 0x02 (o .vars) (p .start-named) in record { here = omega arith; ordered = variable-range file o p }
+
+  pub fits : Fits file o
+  fits =
+      let q = kind-here file 0x05 (o .property) (p .property-named) in
+      let e = edges-end file o p in
+      record {
+        vars-most = variables-most file o p;
+        ranges = ranges;
+        transition-here = walk-bound file (o .vars) 16 truth (o .vars + 1) (o .transition) (p .start) .1;
+        property-here = omega arith;
+        edges-here = omega arith;
+        nodes-most = nodes-most file o p;
+      }

@@ -1,0 +1,149 @@
+-- Laws of the analysis of an expression.
+--     analysis-opens     where an interval that is answered comes from
+--     analysis-bounded   it lies in -1,000,000..1,000,000
+--     analysis-span      the end that is answered is where the expression ends
+--     analysis-walk      so it is where the walk ends
+--     analysis-ahead     it lies behind the first record
+-- Assumes nothing.
+use mathlib.Core.Path.{_≡_, refl, ap, subst, _∙_}
+use mathlib.Core.Bool.{Bool, true, false, cond}
+use mathlib.Core.List.{List}
+use Prim.Native.Nat.{ℕ, zero, suc, _+_, _*_, _/_, _<_, _≤_}
+use native.Mathlib.Nat.{add-zero}
+use native.Mathlib.Omega.{arith}
+use lib.ListN.{length, getD, drop}
+use lib.Seq.{getD-drop, drop-drop}
+use lib.Dec.{ltb}
+use Rattle.integers.specs.declared.Interval.{Interval}
+use Rattle.integers.specs.Interval.{inBounds, Bounded}
+use Rattle.integers.proofs.OverEnds.{bounded}
+use Rattle.parsing.specs.declared.kinds.Form.{Form}
+use Rattle.parsing.specs.declared.kinds.Form.the-variants.{Constant, Variable, Arithmetic, Indicator, Literal, Negation, Connective, Comparison, Unfit}
+use Rattle.parsing.specs.declared.walk.Walked.{Walked}
+use Rattle.parsing.specs.Record.{kindAt}
+use Rattle.parsing.specs.Kind.{formOf, signatureOf, formAt, signatureAt}
+use Rattle.parsing.specs.Walk.{walkOf, spans, span}
+use Rattle.parsing.proofs.Laws.Span.{walk-span}
+use Rattle.reading.specs.declared.intervals.Analysis.{Analysis}
+use Rattle.reading.specs.declared.intervals.Analysis.the-variants.{Within, Out}
+use Rattle.reading.specs.Interval.{unit, leafOf, joinOf, ownOf, andInterval, byOperands, analysisOf}
+
+-- where an interval comes from: the record itself, or its operands, one level further in
+pub data Judged (file : List ℕ) (levels at end : ℕ) : Interval → Type 0 where
+  none : signatureAt file at .operands ≡ 0 → end ≡ at + 1 → Judged file levels at end (leafOf file at (formAt file at))
+  one : {j : Interval} → signatureAt file at .operands ≡ 1 → analysisOf file levels (at + 1) ≡ Within j end → Judged file levels at end unit
+  two : {mid : ℕ} {j k : Interval} → signatureAt file at .operands ≡ 2 → analysisOf file levels (at + 1) ≡ Within j mid → analysisOf file levels mid ≡ Within k end
+      → Judged file levels at end (joinOf (kindAt file at) (formAt file at) j k)
+
+operands-most : (f : Form) → signatureOf f .operands ≤ 2
+unfolding signatureOf
+operands-most Constant = omega arith
+operands-most Variable = omega arith
+operands-most Arithmetic = omega arith
+operands-most Indicator = omega arith
+operands-most Literal = omega arith
+operands-most Negation = omega arith
+operands-most Connective = omega arith
+operands-most Comparison = omega arith
+operands-most Unfit = omega arith
+
+module _ (j : Interval) (e : ℕ) where
+  own-opens : (i : Interval) (end at : ℕ) → ownOf i end at ≡ Within j e → (i ≡ j) × (end ≡ e) × Bounded j
+  unfolding ownOf
+  own-opens i end at w = go (inBounds i) refl w
+    where
+      go : (b : Bool) → inBounds i ≡ b → cond b (Within i end) (Out at) ≡ Within j e → (i ≡ j) × (end ≡ e) × Bounded j
+      go true t q = let z : i ≡ j = cc in (z, cc, subst Bounded z (bounded t))
+      go false t q = let z : _≡_ {A = ℕ} 0 1 = cc in absurd (omega arith)
+
+  module _ (file : List ℕ) (levels at : ℕ) where
+    one-opens : signatureAt file at .operands ≡ 1 → (w : Analysis) → analysisOf file levels (at + 1) ≡ w → andInterval w (λ i end. ownOf unit end at) ≡ Within j e
+        → Bounded j × Judged file levels at e j
+    one-opens n (Analysis.Within i end) is q =
+        let o = own-opens unit end at q in
+        (o .2, subst (Judged file levels at e) (o .0) (one n (is ∙ ap (Within i) (o .1))))
+    one-opens n (Analysis.Out place) is q = let z : _≡_ {A = ℕ} 0 1 = cc in absurd (omega arith)
+
+    right-opens : signatureAt file at .operands ≡ 2 → (i : Interval) (mid : ℕ) → analysisOf file levels (at + 1) ≡ Within i mid → (w : Analysis) → analysisOf file levels mid ≡ w
+        → andInterval w (λ k end. ownOf (joinOf (kindAt file at) (formAt file at) i k) end at) ≡ Within j e → Bounded j × Judged file levels at e j
+    right-opens n i mid left (Analysis.Within k end) is q =
+        let o = own-opens (joinOf (kindAt file at) (formAt file at) i k) end at q in
+        (o .2, subst (Judged file levels at e) (o .0) (two n left (is ∙ ap (Within k) (o .1))))
+    right-opens n i mid left (Analysis.Out place) is q = let z : _≡_ {A = ℕ} 0 1 = cc in absurd (omega arith)
+
+    two-opens : signatureAt file at .operands ≡ 2 → (w : Analysis) → analysisOf file levels (at + 1) ≡ w
+        → andInterval w (λ i next. andInterval (analysisOf file levels next) λ k end. ownOf (joinOf (kindAt file at) (formAt file at) i k) end at) ≡ Within j e
+        → Bounded j × Judged file levels at e j
+    two-opens n (Analysis.Within i mid) is q = right-opens n i mid is (analysisOf file levels mid) refl q
+    two-opens n (Analysis.Out place) is q = let z : _≡_ {A = ℕ} 0 1 = cc in absurd (omega arith)
+
+    by-opens : (n : ℕ) → signatureAt file at .operands ≡ n → n ≤ 2 → byOperands file at (analysisOf file levels) n ≡ Within j e → Bounded j × Judged file levels at e j
+    unfolding byOperands
+    by-opens zero n l q =
+        let o = own-opens (leafOf file at (formAt file at)) (at + 1) at q in
+        let ends = o .1 in
+        (o .2, subst (Judged file levels at e) (o .0) (none n (omega arith)))
+    by-opens (suc zero) n l q = one-opens n (analysisOf file levels (at + 1)) refl q
+    by-opens (suc (suc zero)) n l q = two-opens n (analysisOf file levels (at + 1)) refl q
+    by-opens (suc (suc (suc m))) n l q = absurd (omega arith)
+
+    pub analysis-opens : analysisOf file (suc levels) at ≡ Within j e → Bounded j × Judged file levels at e j
+    unfolding analysisOf
+    analysis-opens q = go (ltb at (length file / 8)) q
+      where
+        go : (b : Bool) → cond b (byOperands file at (analysisOf file levels) (signatureAt file at .operands)) (Out at) ≡ Within j e → Bounded j × Judged file levels at e j
+        go true w = by-opens (signatureAt file at .operands) refl (operands-most (formAt file at)) w
+        go false w = let z : _≡_ {A = ℕ} 0 1 = cc in absurd (omega arith)
+
+  pub analysis-deepest : (file : List ℕ) (at : ℕ) → analysisOf file zero at ≡ Within j e → ⊥
+  unfolding analysisOf
+  analysis-deepest file at q = let z : _≡_ {A = ℕ} 0 1 = cc in omega arith
+
+  pub analysis-bounded : (file : List ℕ) (levels at : ℕ) → analysisOf file levels at ≡ Within j e → Bounded j
+  analysis-bounded file zero at q = absurd (analysis-deepest file at q)
+  analysis-bounded file (suc levels) at q = analysis-opens file levels at q .0
+
+-- ---- where an expression ends
+module _ (file : List ℕ) (levels at end : ℕ)
+    (ih : (x y : ℕ) (i : Interval) → analysisOf file levels x ≡ Within i y → y ≡ x + span levels (drop (8 * x) file)) where
+  -- the operand k records behind `at`
+  part-from : (k : ℕ) → drop (8 * k) (drop (8 * at) file) ≡ drop (8 * (at + k)) file
+  part-from k = let d : 8 * at + 8 * k ≡ 8 * (at + k) = omega arith in drop-drop (8 * k) (8 * at) file ∙ rw d
+
+  judged-span : {i : Interval} → Judged file levels at end i → end ≡ at + spans (span levels) (signatureAt file at .operands) 1 (drop (8 * at) file)
+  unfolding spans
+  judged-span (none n e) = rw n e
+  judged-span (one {j} n l) = rw (n, part-from 1) (let z = ih (at + 1) end j l in omega arith)
+  judged-span (two {mid} {j} {k} n l r) =
+      let y = ih (at + 1) mid j l in
+      let z = ih mid end k r in
+      let m : mid ≡ at + (1 + span levels (drop (8 * (at + 1)) file)) = omega arith in
+      rw (n, part-from 1, part-from (1 + span levels (drop (8 * (at + 1)) file)), ← m) (omega arith)
+
+pub analysis-span : (file : List ℕ) (levels at end : ℕ) (i : Interval) → analysisOf file levels at ≡ Within i end → end ≡ at + span levels (drop (8 * at) file)
+unfolding span
+analysis-span file zero at end i q = absurd (analysis-deepest i end file at q)
+analysis-span file (suc levels) at end i q =
+    let z : getD (drop (8 * at) file) 0 0 ≡ getD file (8 * at) 0 = getD-drop (8 * at) file 0 0 ∙ rw add-zero in
+    rw z (judged-span file levels at end (analysis-span file levels) (analysis-opens i end file levels at q .1))
+
+pub analysis-walk : (file : List ℕ) (vars levels want at end : ℕ) (j : Interval) (e : ℕ)
+    → walkOf file vars levels want at ≡ Walked.End end → analysisOf file levels at ≡ Within j e → e ≡ end
+analysis-walk file vars levels want at end j e w q =
+    let a = walk-span file vars levels want at end w in
+    let b = analysis-span file levels at e j q in
+    omega arith
+
+spans-least : (count : List ℕ → ℕ) (part : List ℕ) (n k : ℕ) → k ≤ spans count n k part
+unfolding spans
+spans-least count part zero k = omega arith
+spans-least count part (suc n) k = let z = spans-least count part n (k + count (drop (8 * k) part)) in omega arith
+
+-- an expression has a record
+pub analysis-ahead : (file : List ℕ) (levels at : ℕ) (j : Interval) (e : ℕ) → analysisOf file levels at ≡ Within j e → at < e
+unfolding span
+analysis-ahead file zero at j e q = absurd (analysis-deepest j e file at q)
+analysis-ahead file (suc levels) at j e q =
+    let z = analysis-span file (suc levels) at e j q in
+    let y = spans-least (span levels) (drop (8 * at) file) (signatureOf (formOf (getD (drop (8 * at) file) 0 0)) .operands) 1 in
+    omega arith

@@ -1,0 +1,243 @@
+-- The scan of refusal 8 passes every expression of a readable file. It is followed from the file's first record to its last, section by section: where
+-- it comes to an expression that walks to its end, the analysis passed it, and the scan goes on behind it.
+--     start-scanned, transition-scanned, claimed-scanned, node-scanned     the start, each transition, each expression of the property, each node
+-- Assumes nothing.
+use mathlib.Core.Path.{_≡_, refl, sym, ap, subst, _∙_}
+use mathlib.Core.Bool.{Bool, true, false, cond, and-eq-true-iff}
+use mathlib.Core.List.{List, [], _∷_}
+use Prim.Native.Nat.{ℕ, zero, suc, _+_, _*_, _/_, _<_, _≤_}
+use native.Mathlib.Omega.{arith}
+use borrow.Author.Tests.{lt-ltb, ltb-true, leb-true, eq-eqb, ne-eqb, eqb-true}
+use lib.ListN.{length, getD, set, replicate, length-set}
+use lib.Seq.{getD-set-same, getD-set-other}
+use lib.Dec.{ltb, leb, eqb}
+use Rattle.integers.specs.declared.Interval.{Interval}
+use Rattle.parsing.specs.declared.walk.Walked.{Walked}
+use Rattle.parsing.specs.declared.outline.Outline.{Outline}
+use Rattle.parsing.specs.Record.{kindAt, fieldA, kindIs, zerosOf}
+use Rattle.parsing.specs.Kind.{none, number, truth, within, formOf, signatureOf, signatureAt}
+use Rattle.parsing.specs.Walk.{andThen, inSequence, walkOf, truthOf}
+use Rattle.parsing.specs.Section.{noFields, variableFields, transitionFields, assignmentFields, variablesOf, assignmentsOf, transitionOf, transitionsOf, expressionsOf, mostNodes, nodeOf, nodesOf}
+use Rattle.parsing.proofs.Laws.Walk.{walk-opens}
+use Rattle.parsing.proofs.Laws.Section.{items-through, items-reach, sequence-through, sequence-reach}
+use Rattle.parsing.proofs.Laws.Parsed.{variables-most}
+use Rattle.reading.specs.declared.intervals.Analysis.{Analysis}
+use Rattle.reading.specs.Interval.{analysisOf, andExpression, analysedFrom, intervalsOf}
+use Rattle.reading.specs.Readable.{Expression, Start, Apart, Assignments, Transition, Claimed, Node}
+use Rattle.reading.proofs.Laws.Interval.{analysis-walk, analysis-ahead}
+use Rattle.reading.proofs.Laws.Stage.{Passed, Stages}
+
+-- ---- the scan at a record
+-- the expressions from `at` on passed
+record Scanned (file : List ℕ) (at : ℕ) : Type 0 where
+  left : ℕ
+  enough : length file / 8 ≤ at + left
+  all : Passed (analysedFrom file left at)
+
+scanned : (file : List ℕ) → Passed (intervalsOf file) → Scanned file 0
+unfolding intervalsOf
+scanned file p = record { left = length file / 8; enough = omega arith; all = p }
+
+-- an expression that the scan passed, and the scan behind it
+record Passing (file : List ℕ) (vars want at end : ℕ) : Type 0 where
+  interval : Interval
+  expression : Expression file vars 16 want at end interval
+  rest : Scanned file end
+
+module _ (file : List ℕ) (at : ℕ) (here : at < length file / 8) where
+  skip : (left : ℕ) → length file / 8 ≤ at + left → signatureAt file at .sort ≡ none → Passed (analysedFrom file left at) → Scanned file (at + 1)
+  unfolding analysedFrom
+  skip zero l u p = absurd (omega arith)
+  skip (suc left) l u p =
+      record { left = left; enough = omega arith; all = record { end = p .end; is = simp (lt-ltb _ _ here, eq-eqb _ _ u) at (p .is) } }
+
+  module _ (vars want end : ℕ) (w : walkOf file vars 16 want at ≡ Walked.End end) (some : signatureAt file at .sort ≡ none → ⊥) where
+    over : (left x : ℕ) (j : Analysis) → analysisOf file 16 at ≡ j → length file / 8 ≤ at + suc left → andExpression j (analysedFrom file left) ≡ Walked.End x
+        → Passing file vars want at end
+    over left x (Analysis.Within i e) is l q =
+        let z = analysis-walk file vars 16 want at end i e w is in
+        let a = analysis-ahead file 16 at i e is in
+        record {
+          interval = i;
+          expression = record { walks = w; bounds = is ∙ rw z };
+          rest = record { left = left; enough = omega arith; all = record { end = x; is = rw (← z) q } };
+        }
+    over left x (Analysis.Out place) is l q = let z : _≡_ {A = ℕ} 0 1 = cc in absurd (omega arith)
+
+    step : (left : ℕ) → length file / 8 ≤ at + left → Passed (analysedFrom file left at) → Passing file vars want at end
+    unfolding analysedFrom
+    step zero l p = absurd (omega arith)
+    step (suc left) l p = over left (p .end) (analysisOf file 16 at) refl l (simp (lt-ltb _ _ here, ne-eqb _ _ some) at (p .is))
+
+module _ (file : List ℕ) (vars : ℕ) where
+  -- an expression of a sort, where the scan has come to it
+  passing : (want at end : ℕ) → (want ≡ none → ⊥) → walkOf file vars 16 want at ≡ Walked.End end → Scanned file at → Passing file vars want at end
+  passing want at end some w s =
+      let o = walk-opens file vars 15 want at end w in
+      step file at (o .here) vars want end w (λ u. some (sym (o .fit) ∙ u)) (s .left) (s .enough) (s .all)
+
+  -- a record that begins a section's item is passed over
+  head : (kind at : ℕ) → signatureOf (formOf kind) .sort ≡ none → kindIs file kind at ≡ true → Scanned file at → Scanned file (at + 1)
+  unfolding kindIs
+  head kind at u k s =
+      let b = and-eq-true-iff (ltb at (length file / 8)) (eqb (kindAt file at) kind) .0 k in
+      let z : kindAt file at ≡ kind = eqb-true _ _ (b .1) in
+      skip file at (ltb-true _ _ (b .0)) (s .left) (s .enough) (rw z u) (s .all)
+
+  node-passing : (at end : ℕ) → kindIs file 0x06 at ≡ true → nodeOf file vars at ≡ Walked.End end → Scanned file at → Passing file vars truth (at + 1) end
+  unfolding within formOf signatureOf
+  node-passing at end k w s = passing truth (at + 1) end (λ z. omega arith) w (head 0x06 at refl k s)
+
+-- ---- a transition's assignments
+-- none of the variables is marked
+abbrev Unmarked : List ℕ → List ℕ → Type 0
+Unmarked marks [] = Unit {0}
+Unmarked marks (v ∷ vs) = (getD marks v 0 ≡ 0) × Unmarked marks vs
+
+-- those that are not marked once a is are apart from it
+apart : (marks : List ℕ) (a : ℕ) → a < length marks → (vs : List ℕ) → Unmarked (set marks a 1) vs → Apart a vs × Unmarked marks vs
+apart marks a l [] u = (tt, tt)
+apart marks a l (v ∷ vs) u =
+    let r = apart marks a l vs (u .1) in
+    let other : a ≡ v → ⊥ = λ e. let z : _≡_ {A = ℕ} 0 1 = sym (u .0) ∙ ap (λ (x : ℕ). getD (set marks a 1) x 0) (sym e) ∙ getD-set-same marks a 1 0 l in omega arith in
+    ((other, r .0), (sym (getD-set-other marks a v 1 0 (λ e. other (sym e))) ∙ u .0, r .1))
+
+module _ (file : List ℕ) (vars end : ℕ) where
+  record Assigned (marks : List ℕ) (at : ℕ) : Type 0 where
+    variables : List ℕ
+    assignments : Assignments file vars end at variables
+    unmarked : Unmarked marks variables
+    rest : Scanned file end
+
+  assigned-none : (marks : List ℕ) (at : ℕ) → kindIs file 0x04 at ≡ false → at ≡ end → Scanned file at → Assigned marks at
+  assigned-none marks at k e s =
+      record {
+        variables = [];
+        assignments = subst (λ (x : ℕ). Assignments file vars end x []) (sym e) (Assignments.none (subst (λ (x : ℕ). kindIs file 0x04 x ≡ false) e k));
+        unmarked = tt;
+        rest = subst (Scanned file) e s;
+      }
+
+  assigned-last : (marks : List ℕ) (at : ℕ) (k f : Bool) → kindIs file 0x04 at ≡ k
+      → cond k (cond f (Walked.Refused 6 at) (Walked.Refused 4 at)) (Walked.End at) ≡ Walked.End end → Scanned file at → Assigned marks at
+  assigned-last marks at true true k e s = let z : _≡_ {A = ℕ} 0 1 = cc in absurd (omega arith)
+  assigned-last marks at true false k e s = let z : _≡_ {A = ℕ} 0 1 = cc in absurd (omega arith)
+  assigned-last marks at false f k e s = assigned-none marks at k (cc) s
+
+  assigned-more : (marks : List ℕ) → vars ≤ length marks → (at : ℕ) (next : ℕ → Walked)
+      → ((x : ℕ) → next x ≡ Walked.End end → Scanned file x → Assigned (set marks (fieldA file at) 1) x)
+      → (k f d : Bool) (w : Walked) → kindIs file 0x04 at ≡ k → assignmentFields file vars at ≡ f → eqb (getD marks (fieldA file at) 0) 0 ≡ d → walkOf file vars 16 number (at + 1) ≡ w
+      → cond k (cond f (cond d (andThen w next) (Walked.Refused 6 at)) (Walked.Refused 4 at)) (Walked.End at) ≡ Walked.End end → Scanned file at → Assigned marks at
+  unfolding assignmentFields within formOf signatureOf
+  assigned-more marks m at next h true true true (Walked.End x) k f d w e s =
+      let v = passing file vars number (at + 1) x (λ z. omega arith) w (head file vars 0x04 at refl k s) in
+      let r = h x e (v .rest) in
+      let below : fieldA file at < vars = ltb-true _ _ (and-eq-true-iff (ltb (fieldA file at) vars) (zerosOf file (8 * at + 2) 6) .0 f .0) in
+      let a = apart marks (fieldA file at) (omega arith) (r .variables) (r .unmarked) in
+      record {
+        variables = fieldA file at ∷ r .variables;
+        assignments = Assignments.more k below (v .expression) (r .assignments) (a .0);
+        unmarked = (eqb-true _ _ d, a .1);
+        rest = r .rest;
+      }
+  assigned-more marks m at next h true true true (Walked.Refused n p) k f d w e s = let z : _≡_ {A = ℕ} 0 1 = cc in absurd (omega arith)
+  assigned-more marks m at next h true true false w k f d is e s = let z : _≡_ {A = ℕ} 0 1 = cc in absurd (omega arith)
+  assigned-more marks m at next h true false d w k f is it e s = let z : _≡_ {A = ℕ} 0 1 = cc in absurd (omega arith)
+  assigned-more marks m at next h false f d w k is it so e s = assigned-none marks at k (cc) s
+
+  assigned-all : (left : ℕ) (marks : List ℕ) → vars ≤ length marks → (at : ℕ) → assignmentsOf file vars left marks at ≡ Walked.End end → Scanned file at → Assigned marks at
+  unfolding assignmentsOf
+  assigned-all zero marks m at e s = assigned-last marks at (kindIs file 0x04 at) (assignmentFields file vars at) refl e s
+  assigned-all (suc left) marks m at e s =
+      let a = fieldA file at in
+      assigned-more marks m at (assignmentsOf file vars left (set marks a 1)) (assigned-all left (set marks a 1) (rw length-set m))
+      (kindIs file 0x04 at) (assignmentFields file vars at) (eqb (getD marks a 0) 0) (walkOf file vars 16 number (at + 1)) refl refl refl refl e s
+
+  -- ---- a transition: its guard, then its assignments
+  record Guarded (at : ℕ) : Type 0 where
+    behind : ℕ
+    interval : Interval
+    guard : Expression file vars 16 truth (at + 1) behind interval
+    assigned : Assigned (replicate 12 0) behind
+
+  guarded-by : vars ≤ 12 → (at : ℕ) (w : Walked) → walkOf file vars 16 truth (at + 1) ≡ w → andThen w (assignmentsOf file vars 12 (replicate 12 0)) ≡ Walked.End end
+      → kindIs file 0x03 at ≡ true → Scanned file at → Guarded at
+  unfolding within formOf signatureOf
+  guarded-by m at (Walked.End i) is e k s =
+      let g = passing file vars truth (at + 1) i (λ z. omega arith) is (head file vars 0x03 at refl k s) in
+      record { behind = i; interval = g .interval; guard = g .expression; assigned = assigned-all 12 (replicate 12 0) m i e (g .rest) }
+  guarded-by m at (Walked.Refused n p) is e k s = let z : _≡_ {A = ℕ} 0 1 = cc in absurd (omega arith)
+
+  guarded : vars ≤ 12 → (at : ℕ) → kindIs file 0x03 at ≡ true → transitionOf file vars at ≡ Walked.End end → Scanned file at → Guarded at
+  unfolding transitionOf
+  guarded m at k e s = guarded-by m at (walkOf file vars 16 truth (at + 1)) refl e k s
+
+-- ---- the sections of a readable file, in their order
+module _ (file : List ℕ) (o : Outline) (r : Stages file o) where
+  at-start : Scanned file (o .vars)
+  unfolding variablesOf within formOf signatureOf
+  at-start =
+      items-through file 0x01 (variableFields file) (λ at. Walked.End (at + 1)) (Scanned file)
+      (λ i x k e s. let z : i + 1 ≡ x = cc in subst (Scanned file) z (head file (o .vars) 0x01 i refl k s))
+      (o .vars) (o .vars) 12 0 0 (r .parsed .variables) (scanned file (r .intervals))
+
+  start-passing : Passing file (o .vars) truth (o .vars + 1) (o .transition)
+  unfolding within formOf signatureOf
+  start-passing =
+      passing file (o .vars) truth (o .vars + 1) (o .transition) (λ z. omega arith) (r .parsed .start)
+      (head file (o .vars) 0x02 (o .vars) refl (r .parsed .start-named) at-start)
+
+  pub start-scanned : Start file o
+  start-scanned = record { interval = start-passing .interval; expression = start-passing .expression }
+
+  transition-next : (i x : ℕ) → kindIs file 0x03 i ≡ true → transitionOf file (o .vars) i ≡ Walked.End x → Scanned file i → Scanned file x
+  transition-next i x k e s = guarded file (o .vars) x (variables-most file o (r .parsed)) i k e s .assigned .rest
+
+  pub transition-scanned : (t : ℕ) → t < o .transitions → Transition file o t
+  unfolding transitionsOf transitionFields
+  transition-scanned t l =
+      let n = items-reach file 0x03 (transitionFields file) (transitionOf file (o .vars)) (Scanned file) transition-next
+      (o .transitions) (o .property) 32 0 (o .transition) (r .parsed .transitions) (start-passing .rest) t (omega arith) in
+      let g = guarded file (o .vars) (n .end) (variables-most file o (r .parsed)) (n .place) (n .named) (n .ends) (n .holds) in
+      record {
+        place = n .place;
+        behind = g .behind;
+        end = n .end;
+        reached = n .reached;
+        named = n .named;
+        just-or-not = leb-true _ _ (and-eq-true-iff (leb (fieldA file (n .place)) 1) (zerosOf file (8 * n .place + 2) 6) .0 (n .right) .0);
+        interval = g .interval;
+        guard = g .guard;
+        assigned = g .assigned .variables;
+        assignments = g .assigned .assignments;
+      }
+
+  at-claims : Scanned file (o .property + 1)
+  unfolding transitionsOf within formOf signatureOf
+  at-claims =
+      head file (o .vars) 0x05 (o .property) refl (r .parsed .property-named)
+      (items-through file 0x03 (transitionFields file) (transitionOf file (o .vars)) (Scanned file) transition-next
+      (o .transitions) (o .property) 32 0 (o .transition) (r .parsed .transitions) (start-passing .rest))
+
+  claim-passing : (i x : ℕ) → truthOf file (o .vars) i ≡ Walked.End x → Scanned file i → Passing file (o .vars) truth i x
+  claim-passing i x w s = passing file (o .vars) truth i x (λ z. omega arith) w s
+
+  pub claimed-scanned : (i : ℕ) → i < expressionsOf file (o .property) → Claimed file o i
+  claimed-scanned i l =
+      let n = sequence-reach (truthOf file (o .vars)) (Scanned file) (λ x y w s. claim-passing x y w s .rest)
+      (o .node) (expressionsOf file (o .property)) (o .property + 1) (r .parsed .truths) at-claims i l in
+      let p = claim-passing (n .place) (n .behind) (n .ends) (n .holds) in
+      record { place = n .place; end = n .behind; reached = n .reached; interval = p .interval; expression = p .expression }
+
+  at-nodes : Scanned file (o .node)
+  at-nodes =
+      sequence-through (truthOf file (o .vars)) (Scanned file) (λ x y w s. claim-passing x y w s .rest)
+      (o .node) (expressionsOf file (o .property)) (o .property + 1) (r .parsed .truths) at-claims
+
+  pub node-scanned : (n : ℕ) → n < o .nodes → Node file o n
+  unfolding nodesOf
+  node-scanned n l =
+      let h = items-reach file 0x06 (noFields file) (nodeOf file (o .vars)) (Scanned file) (λ x y k w s. node-passing file (o .vars) x y k w s .rest)
+      (o .nodes) (o .edge) (mostNodes file (o .property)) 0 (o .node) (r .parsed .nodes) at-nodes n (omega arith) in
+      let p = node-passing file (o .vars) (h .place) (h .end) (h .named) (h .ends) (h .holds) in
+      record { place = h .place; end = h .end; reached = h .reached; named = h .named; interval = p .interval; assertion = p .expression }

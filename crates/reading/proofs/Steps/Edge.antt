@@ -1,0 +1,76 @@
+-- What the edge rules say, by the tests in their order.
+-- Assumes nothing.
+use mathlib.Core.Path.{_≡_, refl}
+use mathlib.Core.Bool.{Bool, true, false, not}
+use mathlib.Core.List.{List}
+use Prim.Native.Nat.{ℕ, _-_, _<_, _≤_}
+use borrow.Author.Tests.{eq-eqb, ne-eqb, lt-ltb, le-ltb}
+use lib.Dec.{eqb}
+use Rattle.parsing.specs.declared.walk.Walked.{Walked}
+use Rattle.parsing.specs.declared.outline.Outline.{Outline}
+use Rattle.parsing.specs.Record.{fieldA, fieldB, fieldC, fieldD}
+use Rattle.reading.specs.Search.{any, refuseFirst}
+use Rattle.reading.specs.Edge.{single, diagram, descending, justOf, conflictOf, chainRuleOf, ruleOf, doubledOf, doublesOf}
+
+module _ (file : List ℕ) (i j b e : ℕ) (p : b ≡ fieldB file i) (q : e ≡ fieldB file j) where
+  pub conflict-apart : (b ≡ e → ⊥) → conflictOf file i j ≡ false
+  unfolding conflictOf
+  conflict-apart h = rw (← p, ← q, ne-eqb _ _ h)
+
+  module _ (h : b ≡ e) where
+    pub conflict-same : fieldA file i ≡ fieldA file j → conflictOf file i j ≡ not (eqb (fieldD file i) (fieldD file j))
+    unfolding conflictOf
+    conflict-same t = rw (← p, ← q, eq-eqb _ _ h, eq-eqb _ _ t)
+
+    pub conflict-double : (fieldA file i ≡ fieldA file j → ⊥) → fieldD file i ≡ 1 → conflictOf file i j ≡ eqb (fieldD file j) 1
+    unfolding conflictOf
+    conflict-double t d = rw (← p, ← q, eq-eqb _ _ h, ne-eqb _ _ t, eq-eqb _ _ d)
+
+    pub conflict-single : (fieldA file i ≡ fieldA file j → ⊥) → (fieldD file i ≡ 1 → ⊥) → conflictOf file i j ≡ false
+    unfolding conflictOf
+    conflict-single t d = rw (← p, ← q, eq-eqb _ _ h, ne-eqb _ _ t, ne-eqb _ _ d)
+
+module _ (file : List ℕ) (o : Outline) (at : ℕ) where
+  pub chain-conflict : any (λ e. conflictOf file e at) (at - o .edge) (o .edge) ≡ true → chainRuleOf file o at ≡ false
+  unfolding chainRuleOf
+  chain-conflict c = rw c
+
+  module _ (c : any (λ e. conflictOf file e at) (at - o .edge) (o .edge) ≡ false) where
+    pub chain-single : fieldD file at ≡ 0 → chainRuleOf file o at ≡ true
+    unfolding chainRuleOf
+    chain-single d = rw (c, eq-eqb _ _ d)
+
+    module _ (d : fieldD file at ≡ 0 → ⊥) (to from : ℕ) (p : to ≡ fieldC file at) (q : from ≡ fieldB file at) where
+      pub chain-double : to < from → chainRuleOf file o at ≡ justOf file o (fieldA file at)
+      unfolding chainRuleOf
+      chain-double l = rw (c, ne-eqb _ _ d, ← p, ← q, lt-ltb _ _ l)
+
+      pub chain-level : from ≤ to → chainRuleOf file o at ≡ false
+      unfolding chainRuleOf
+      chain-level l = rw (c, ne-eqb _ _ d, ← p, ← q, le-ltb _ _ l)
+
+  pub rule-invariance : diagram file o ≡ 1 → ruleOf file o at ≡ single file at
+  unfolding ruleOf
+  rule-invariance i = rw (eq-eqb _ _ i)
+
+  module _ (i : diagram file o ≡ 1 → ⊥) where
+    pub rule-rises : descending file at ≡ false → ruleOf file o at ≡ false
+    unfolding ruleOf
+    rule-rises f = rw (ne-eqb _ _ i, f)
+
+    module _ (f : descending file at ≡ true) where
+      pub rule-waiting : diagram file o ≡ 2 → ruleOf file o at ≡ single file at
+      unfolding ruleOf
+      rule-waiting w = rw (ne-eqb _ _ i, f, eq-eqb _ _ w)
+
+      pub rule-chain : (diagram file o ≡ 2 → ⊥) → ruleOf file o at ≡ chainRuleOf file o at
+      unfolding ruleOf
+      rule-chain w = rw (ne-eqb _ _ i, f, ne-eqb _ _ w)
+
+  pub doubles-none : (diagram file o ≡ 3 → ⊥) → doublesOf file o ≡ Walked.End 0
+  unfolding doublesOf
+  doubles-none c = rw (ne-eqb _ _ c)
+
+  pub doubles-chain : diagram file o ≡ 3 → doublesOf file o ≡ refuseFirst 10 (doubledOf file o) (o .nodes - 1) 1
+  unfolding doublesOf
+  doubles-chain c = rw (eq-eqb _ _ c)

@@ -1,0 +1,27 @@
+-- One step of `statesOf`, as the code takes it.
+-- Assumes nothing.
+use mathlib.Core.Path.{_≡_, refl}
+use mathlib.Core.List.{List}
+use Prim.Native.Nat.{ℕ, zero, suc, _+_, _-_, _*_, _<_, _≤_}
+use native.Mathlib.Numerals.{sub-one}
+use native.Mathlib.Omega.{arith}
+use borrow.Author.Tests.{le-leb, lt-leb}
+use Rattle.parsing.specs.declared.walk.Walked.{Walked}
+use Rattle.parsing.specs.declared.walk.Walked.the-variants.{End, Refused}
+use Rattle.reading.specs.States.{sizeOf, statesOf}
+
+pub states-none : (file : List ℕ) (left at product : ℕ) → left ≤ 0 → statesOf file left at product ≡ End product
+unfolding statesOf
+states-none file zero at product h = refl
+states-none file (suc left) at product h = absurd (omega arith)
+
+module _ (file : List ℕ) (at product next : ℕ) (is : next ≡ product * sizeOf file at) where
+  pub states-over : (left : ℕ) → 0 < left → 1048576 < next → statesOf file left at product ≡ Refused 7 at
+  unfolding statesOf
+  states-over zero h o = absurd (omega arith)
+  states-over (suc left) h o = rw (← is, lt-leb _ _ o)
+
+  pub states-step : (left : ℕ) → 0 < left → next ≤ 1048576 → statesOf file left at product ≡ statesOf file (left - 1) (at + 1) next
+  unfolding statesOf
+  states-step zero h o = absurd (omega arith)
+  states-step (suc left) h o = rw (← is, le-leb _ _ o, sub-one)

@@ -1,0 +1,61 @@
+-- `reading::edges::doubled` meets its contract: the edges left decide for all.
+-- Assumes nothing.
+use mathlib.Core.Path.{_≡_, refl, sym, _∙_}
+use Prim.Native.Nat.{_+_, _*_, _≤_}
+use native.Mathlib.Omega.{arith}
+use lib.ListN.{length}
+use Rattle.reading.specs.Search.{any}
+use Rattle.reading.specs.Edge.{doubleFrom, doubledOf}
+use Rattle.reading.proofs.Steps.Search.{any-none, any-hit, any-next}
+use Rattle.reading.proofs.edges.doubled.Statement.{statement}
+use Rattle.reading.proofs.edges.doubled.Tie as tie
+use Rattle.reading.proofs.edges.doubled.Reads as reads
+use Rattle.reading.proofs.edges.doubled.Lts as lts
+use Rattle.reading.proofs.edges.double_from.Reads as double-from-reads
+
+abbrev Inv-loop : tie.InvT-loop
+Inv-loop file node left₀ at₀ left at = (any (doubleFrom file node) left₀ at₀ ≡ any (doubleFrom file node) left at) × (8 * (at + left) ≤ length file)
+
+abbrev μ-loop : tie.MeasureT-loop
+μ-loop file node left₀ at₀ left at = left
+
+loop-holds : tie.Need-loop-holds Inv-loop μ-loop
+loop-holds c = (refl, omega (arith, c .before .pre .edges-here))
+
+double-from-requires : tie.Need-double-from-requires Inv-loop μ-loop
+double-from-requires c κs = omega arith
+
+returns : tie.Need-returns Inv-loop μ-loop
+unfolding doubledOf
+returns c = sym (c .before .before .before .loop .inv .0 ∙ any-hit _ _ _ (c .before .before .loop-test .taken) (sym (c .before .double-from .ensures) ∙ c .if1 .taken))
+
+add-at : tie.Need-add-at Inv-loop μ-loop
+add-at c = omega arith
+
+sub-left : tie.Need-sub-left Inv-loop μ-loop
+sub-left c = omega arith
+
+loop-less : tie.Need-loop-less Inv-loop μ-loop
+loop-less c = omega arith
+
+loop-again : tie.Need-loop-again Inv-loop μ-loop
+loop-again c = (c .before .before .before .loop .inv .0 ∙ any-next _ _ _ (c .before .before .loop-test .taken) (sym (c .before .double-from .ensures) ∙ c .if1 .left), omega arith)
+
+returns-2 : tie.Need-returns-2 Inv-loop μ-loop
+unfolding doubledOf
+returns-2 c = sym (c .before .loop .inv .0 ∙ any-none _ _ _ (c .loop-test .left))
+
+pub doubled-spec : {M : Type 1} → statement M
+doubled-spec =
+    tie.close
+    (tie.spec
+    Inv-loop
+    μ-loop
+    loop-holds
+    double-from-requires
+    returns
+    add-at
+    sub-left
+    loop-less
+    loop-again
+    returns-2)

@@ -1,0 +1,143 @@
+-- The proof of the cycle of calls {judge}. The measure is the levels left.
+-- Assumes nothing.
+use native.Mathlib.Omega.{arith}
+use mathlib.Core.Path.{sym, ap, _∙_}
+use Rattle.parsing.specs.Kind.{signatureOf}
+use Prim.Native.Nat.{ℕ, _<_}
+use borrow.Author.Needs.{needs}
+use Rattle.reading.proofs.Steps.Interval.{analyse-deep, analyse-short, analyse-step, by-none, by-out, by-one, by-two-out, by-two, own-same, own-join}
+use Rattle.reading.specs.Interval.{leafOf}
+use Rattle.reading.proofs.Laws.Interval.{analysis-bounded}
+use borrow.Fn.Kinds.{In}
+use borrow.Fn.PlainCycle.{Measures, is, falls, and}
+use Rattle.reading.proofs.intervals.analyse.Reads as analyse
+use Rattle.reading.proofs.intervals.analyse.Kinds as analyse-kinds
+use Rattle.reading.proofs.intervals.+analyse.Lts-analyse as analyse-lts
+use Rattle.reading.proofs.intervals.join.Reads as join-reads
+use Rattle.reading.proofs.intervals.leaf.Reads as leaf-reads
+use Rattle.reading.proofs.intervals.own.Reads as own-reads
+use Rattle.parsing.proofs.kinds.form_of.Reads as form-of-reads
+use Rattle.parsing.proofs.kinds.signature_of.Reads as signature-of-reads
+use Rattle.reading.proofs.intervals.+analyse.{statement}
+use Rattle.reading.proofs.intervals.+analyse.Tie.{close}
+
+abbrev μ-judge : Measures 1 analyse-kinds.ps ℕ
+μ-judge κs a = a .1 .0
+
+abbrev analyse-at : ℕ → In 1 analyse-kinds.ps
+analyse-at t = and 1 analyse-kinds.ps (is 1 analyse-kinds.ps μ-judge t) analyse.Pre
+
+abbrev analyse-below : ℕ → In 1 analyse-kinds.ps
+analyse-below t = and 1 analyse-kinds.ps (falls 1 analyse-kinds.ps _<_ μ-judge t) analyse.Pre
+
+abbrev others : ℕ → analyse-lts.Claims
+others t = (form-of-reads.Asked, form-of-reads.Learnt, signature-of-reads.Asked, signature-of-reads.Learnt, leaf-reads.Asked, leaf-reads.Learnt, own-reads.Asked, own-reads.Learnt, analyse-below t, analyse.Post, join-reads.Asked, join-reads.Learnt)
+
+analyse-returns : (t : ℕ) → analyse-lts.Need-returns (others t) (analyse-at t) analyse.Post
+analyse-returns t c = sym (analyse-deep _ _ _ (c .if1 .taken))
+
+analyse-returns-2 : (t : ℕ) → analyse-lts.Need-returns-2 (others t) (analyse-at t) analyse.Post
+analyse-returns-2 t c = sym (analyse-short _ _ _ (c .if2 .taken))
+
+analyse-mul-kind : (t : ℕ) → analyse-lts.Need-mul-kind (others t) (analyse-at t) analyse.Post
+analyse-mul-kind t c = omega arith
+
+analyse-shared-slice-read-kind : (t : ℕ) → analyse-lts.Need-shared-slice-read-kind (others t) (analyse-at t) analyse.Post
+analyse-shared-slice-read-kind t c = omega arith
+
+analyse-form-of-requires : (t : ℕ) → analyse-lts.Need-form-of-requires (others t) (analyse-at t) analyse.Post
+analyse-form-of-requires t c κs = tt
+
+analyse-signature-of-requires : (t : ℕ) → analyse-lts.Need-signature-of-requires (others t) (analyse-at t) analyse.Post
+analyse-signature-of-requires t c κs = tt
+
+analyse-leaf-requires : (t : ℕ) → analyse-lts.Need-leaf-requires (others t) (analyse-at t) analyse.Post
+analyse-leaf-requires t c κs = omega arith
+
+analyse-add-own : (t : ℕ) → analyse-lts.Need-add-own (others t) (analyse-at t) analyse.Post
+analyse-add-own t c = omega arith
+
+analyse-own-requires : (t : ℕ) → analyse-lts.Need-own-requires (others t) (analyse-at t) analyse.Post
+analyse-own-requires t c κs = tt
+
+analyse-returns-3 : (t : ℕ) → analyse-lts.Need-returns-3 (others t) (analyse-at t) analyse.Post
+analyse-returns-3 t c = c .own .ensures ∙ own-same _ _ _ _ (c .before .leaf .ensures ∙ ap (leafOf _ _) (c .before .before .before .before .form-of .ensures)) ∙ sym (analyse-step _ _ _ (c .before .before .before .signature-of .ensures ∙ ap signatureOf (c .before .before .before .before .form-of .ensures)) _ (c .before .before .before .before .before .before .if2 .left) (c .before .before .before .before .before .before .before .if1 .left) ∙ by-none _ _ _ _ (c .before .before .if3 .taken))
+
+analyse-sub-analyse : (t : ℕ) → analyse-lts.Need-sub-analyse (others t) (analyse-at t) analyse.Post
+analyse-sub-analyse t c = omega arith
+
+analyse-add-analyse : (t : ℕ) → analyse-lts.Need-add-analyse (others t) (analyse-at t) analyse.Post
+analyse-add-analyse t c = omega arith
+
+analyse-analyse-requires : (t : ℕ) → analyse-lts.Need-analyse-requires (others t) (analyse-at t) analyse.Post
+analyse-analyse-requires t c κs = (omega (arith, c .before .before .before .before .before .before .before .pre .0), tt)
+
+analyse-enum-known-left : (t : ℕ) → analyse-lts.Need-enum-known-left (others t) (analyse-at t) analyse.Post
+analyse-enum-known-left t c = search needs
+
+analyse-own-requires-2 : (t : ℕ) → analyse-lts.Need-own-requires-2 (others t) (analyse-at t) analyse.Post
+analyse-own-requires-2 t c κs = tt
+
+analyse-returns-4 : (t : ℕ) → analyse-lts.Need-returns-4 (others t) (analyse-at t) analyse.Post
+analyse-returns-4 t c = c .own2 .ensures ∙ sym (analyse-step _ _ _ (c .before .before .before .before .before .before .before .signature-of .ensures ∙ ap signatureOf (c .before .before .before .before .before .before .before .before .form-of .ensures)) _ (c .before .before .before .before .before .before .before .before .before .before .if2 .left) (c .before .before .before .before .before .before .before .before .before .before .before .if1 .left) ∙ by-one _ _ _ _ _ (sym (c .before .before .before .before .before .analyse .ensures) ∙ c .before .before .before .left .given .1) _ (c .before .if4 .taken))
+
+analyse-sub-analyse-2 : (t : ℕ) → analyse-lts.Need-sub-analyse-2 (others t) (analyse-at t) analyse.Post
+analyse-sub-analyse-2 t c = omega arith
+
+analyse-analyse-requires-2 : (t : ℕ) → analyse-lts.Need-analyse-requires-2 (others t) (analyse-at t) analyse.Post
+analyse-analyse-requires-2 t c κs = (omega (arith, c .before .before .before .before .before .before .before .before .before .before .before .before .pre .0), tt)
+
+analyse-enum-known-right : (t : ℕ) → analyse-lts.Need-enum-known-right (others t) (analyse-at t) analyse.Post
+analyse-enum-known-right t c = search needs
+
+analyse-join-requires : (t : ℕ) → analyse-lts.Need-join-requires (others t) (analyse-at t) analyse.Post
+analyse-join-requires t c κs = (analysis-bounded _ _ _ _ _ (sym (c .before .before .before .before .before .before .before .before .analyse .ensures) ∙ c .before .before .before .before .before .before .left .given .1), analysis-bounded _ _ _ _ _ (sym (c .before .before .before .analyse2 .ensures) ∙ c .before .right .given .1))
+
+analyse-own-requires-3 : (t : ℕ) → analyse-lts.Need-own-requires-3 (others t) (analyse-at t) analyse.Post
+analyse-own-requires-3 t c κs = tt
+
+analyse-enum-known-right-2 : (t : ℕ) → analyse-lts.Need-enum-known-right-2 (others t) (analyse-at t) analyse.Post
+analyse-enum-known-right-2 t c = search needs
+
+analyse-enum-known-left-2 : (t : ℕ) → analyse-lts.Need-enum-known-left-2 (others t) (analyse-at t) analyse.Post
+analyse-enum-known-left-2 t c = search needs
+
+analyse-returns-5 : (t : ℕ) → analyse-lts.Need-returns-5 (others t) (analyse-at t) analyse.Post
+analyse-returns-5 t c = c .own3 .ensures ∙ own-join _ _ _ _ _ _ _ _ (c .before .join .ensures) (c .before .before .before .before .before .before .before .before .before .before .before .before .before .form-of .ensures) ∙ sym (analyse-step _ _ _ (c .before .before .before .before .before .before .before .before .before .before .before .before .signature-of .ensures ∙ ap signatureOf (c .before .before .before .before .before .before .before .before .before .before .before .before .before .form-of .ensures)) _ (c .before .before .before .before .before .before .before .before .before .before .before .before .before .before .before .if2 .left) (c .before .before .before .before .before .before .before .before .before .before .before .before .before .before .before .before .if1 .left) ∙ by-two _ _ _ _ _ (sym (c .before .before .before .before .before .before .before .before .before .before .analyse .ensures) ∙ c .before .before .before .before .before .before .before .before .left .given .1) _ (c .before .before .before .before .before .before .before .before .before .before .before .if3 .left) (c .before .before .before .before .before .before .if4 .left) _ _ (sym (c .before .before .before .before .before .analyse2 .ensures) ∙ c .before .before .before .right .given .1))
+
+analyse-returns-6 : (t : ℕ) → analyse-lts.Need-returns-6 (others t) (analyse-at t) analyse.Post
+analyse-returns-6 t c = sym (analyse-step _ _ _ (c .before .before .before .before .before .before .before .before .before .before .signature-of .ensures ∙ ap signatureOf (c .before .before .before .before .before .before .before .before .before .before .before .form-of .ensures)) _ (c .before .before .before .before .before .before .before .before .before .before .before .before .before .if2 .left) (c .before .before .before .before .before .before .before .before .before .before .before .before .before .before .if1 .left) ∙ by-two-out _ _ _ _ _ (sym (c .before .before .before .before .before .before .before .before .analyse .ensures) ∙ c .before .before .before .before .before .before .left .given .1) _ _ (c .before .before .before .before .before .before .before .before .before .if3 .left) (c .before .before .before .before .if4 .left) (sym (c .before .before .before .analyse2 .ensures) ∙ c .before .right2 .given .1))
+
+analyse-returns-7 : (t : ℕ) → analyse-lts.Need-returns-7 (others t) (analyse-at t) analyse.Post
+analyse-returns-7 t c = sym (analyse-step _ _ _ (c .before .before .before .before .before .signature-of .ensures ∙ ap signatureOf (c .before .before .before .before .before .before .form-of .ensures)) _ (c .before .before .before .before .before .before .before .before .if2 .left) (c .before .before .before .before .before .before .before .before .before .if1 .left) ∙ by-out _ _ _ _ _ (c .before .before .before .before .if3 .left) (sym (c .before .before .before .analyse .ensures) ∙ c .before .left2 .given .1))
+
+pub +analyse-spec : {M : Type 1} → statement M
++analyse-spec = close μ-judge λ t. analyse-lts.spec (others t)
+    (analyse-at t)
+    analyse.Post
+    (analyse-returns t)
+    (analyse-returns-2 t)
+    (analyse-mul-kind t)
+    (analyse-shared-slice-read-kind t)
+    (analyse-form-of-requires t)
+    (analyse-signature-of-requires t)
+    (analyse-leaf-requires t)
+    (analyse-add-own t)
+    (analyse-own-requires t)
+    (analyse-returns-3 t)
+    (analyse-sub-analyse t)
+    (analyse-add-analyse t)
+    (analyse-analyse-requires t)
+    (analyse-enum-known-left t)
+    (analyse-own-requires-2 t)
+    (analyse-returns-4 t)
+    (analyse-sub-analyse-2 t)
+    (analyse-analyse-requires-2 t)
+    (analyse-enum-known-right t)
+    (analyse-join-requires t)
+    (analyse-own-requires-3 t)
+    (analyse-enum-known-right-2 t)
+    (analyse-enum-known-left-2 t)
+    (analyse-returns-5 t)
+    (analyse-returns-6 t)
+    (analyse-returns-7 t)

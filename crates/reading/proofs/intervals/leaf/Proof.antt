@@ -1,0 +1,90 @@
+-- `reading::intervals::leaf` meets its contract, form by form.
+-- Assumes nothing.
+use native.Mathlib.Omega.{arith}
+use mathlib.Core.Path.{sym}
+use Rattle.reading.proofs.Steps.Interval.{leaf-other}
+use Prim.Native.Nat.{_+_, _*_}
+use Rattle.reading.specs.Interval.{leafOf}
+use mir.Syntax.{w16, w64}
+use Rattle.integers.proofs.Parts.{back}
+use borrow.Author.Needs.{needs}
+use Rattle.reading.proofs.intervals.leaf.Statement.{statement}
+use Rattle.reading.proofs.intervals.leaf.Tie as tie
+use Rattle.reading.proofs.intervals.leaf.Reads as reads
+use Rattle.reading.proofs.intervals.leaf.Lts as lts
+use Rattle.parsing.proofs.records.wide_value_at.Reads as wide-value-at-reads
+
+enum-told : tie.Need-enum-told
+enum-told c = search needs
+
+mul-wide-value-at : tie.Need-mul-wide-value-at
+mul-wide-value-at c = search needs
+
+add-wide-value-at : tie.Need-add-wide-value-at
+add-wide-value-at c = search needs
+
+wide-value-at-requires : tie.Need-wide-value-at-requires
+wide-value-at-requires c κs = search needs
+
+enum-told-2 : tie.Need-enum-told-2
+enum-told-2 c = search needs
+
+mul-variable : tie.Need-mul-variable
+mul-variable c = search needs
+
+add-variable : tie.Need-add-variable
+add-variable c = search needs
+
+shared-slice-read-variable : tie.Need-shared-slice-read-variable
+shared-slice-read-variable c = search needs
+
+cast-variable : tie.Need-cast-variable
+cast-variable c = omega (arith, c .shared-slice-known2 .given (8 * c .before .before .before .before .args .at + 1))
+
+mul-variable-2 : tie.Need-mul-variable-2
+mul-variable-2 c = omega (arith, c .shared-slice-known2 .given (8 * c .before .before .before .before .args .at + 1))
+
+add-wide-value-at-2 : tie.Need-add-wide-value-at-2
+add-wide-value-at-2 c = omega (arith, c .shared-slice-known2 .given (8 * c .before .before .before .before .args .at + 1))
+
+wide-value-at-requires-2 : tie.Need-wide-value-at-requires-2
+wide-value-at-requires-2 c κs = omega (arith, c .shared-slice-known2 .given (8 * c .before .before .before .before .args .at + 1))
+
+add-wide-value-at-3 : tie.Need-add-wide-value-at-3
+add-wide-value-at-3 c = omega (arith, c .before .shared-slice-known2 .given (8 * c .before .before .before .before .before .args .at + 1))
+
+wide-value-at-requires-3 : tie.Need-wide-value-at-requires-3
+wide-value-at-requires-3 c κs = omega (arith, c .before .shared-slice-known2 .given (8 * c .before .before .before .before .before .args .at + 1))
+
+returns : tie.Need-returns
+unfolding leafOf
+returns c = rw (back w64 (c .wide-value-at .result) (c .wide-value-at .ok)) (simp (c .before .enum-told .given .1, c .wide-value-at .ensures))
+
+returns-2 : tie.Need-returns-2
+unfolding leafOf
+returns-2 c = rw (back w64 (c .before .wide-value-at2 .result) (c .before .wide-value-at2 .ok), back w64 (c .wide-value-at3 .result) (c .wide-value-at3 .ok)) (simp (c .before .before .before .enum-told2 .given .1, c .before .wide-value-at2 .ensures, c .wide-value-at3 .ensures))
+
+returns-3 : tie.Need-returns-3
+returns-3 c = let a = c .before .before .args in sym (leaf-other (a .file .now) (a .at) (a .form) (c .match .keys3))
+
+pub leaf-spec : {M : Type 1} → statement M
+leaf-spec =
+    tie.close
+    (tie.spec
+    enum-told
+    mul-wide-value-at
+    add-wide-value-at
+    wide-value-at-requires
+    enum-told-2
+    mul-variable
+    add-variable
+    shared-slice-read-variable
+    cast-variable
+    mul-variable-2
+    add-wide-value-at-2
+    wide-value-at-requires-2
+    add-wide-value-at-3
+    wide-value-at-requires-3
+    returns
+    returns-2
+    returns-3)

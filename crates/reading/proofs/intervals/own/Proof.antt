@@ -1,0 +1,24 @@
+-- `reading::intervals::own` meets its contract, by the test passed.
+-- Assumes nothing.
+use mathlib.Core.Path.{sym, _∙_}
+use Rattle.reading.specs.Interval.{ownOf}
+use borrow.Author.Needs.{needs}
+use Rattle.reading.proofs.intervals.own.Statement.{statement}
+use Rattle.reading.proofs.intervals.own.Tie as tie
+use Rattle.reading.proofs.intervals.own.Reads as reads
+use Rattle.reading.proofs.intervals.own.Lts as lts
+use Rattle.integers.proofs.intervals.in_bounds.Reads as in-bounds-reads
+
+in-bounds-requires : tie.Need-in-bounds-requires
+in-bounds-requires c κs = search needs
+
+returns : tie.Need-returns
+unfolding ownOf
+returns c = simp (sym (c .before .in-bounds .ensures) ∙ c .if1 .taken)
+
+returns-2 : tie.Need-returns-2
+unfolding ownOf
+returns-2 c = simp (sym (c .before .in-bounds .ensures) ∙ c .if1 .left)
+
+pub own-spec : {M : Type 1} → statement M
+own-spec = tie.close (tie.spec in-bounds-requires returns returns-2)

@@ -1,0 +1,44 @@
+-- `reading::read` meets its contract, by what `parse` finds.
+-- Assumes nothing.
+use mathlib.Core.Path.{sym, _∙_}
+use Rattle.parsing.proofs.Laws.Outline.{parses}
+use Rattle.reading.specs.Read.{parsedRead, readOf}
+use Rattle.reading.proofs.Laws.Fits.{fits}
+use borrow.Author.Needs.{needs}
+use Rattle.reading.proofs.read.Statement.{statement}
+use Rattle.reading.proofs.read.Tie as tie
+use Rattle.reading.proofs.read.Reads as reads
+use Rattle.reading.proofs.read.Lts as lts
+use Rattle.parsing.proofs.outline.parse.Reads as parse-reads
+use Rattle.reading.proofs.read_states.Reads as read-states-reads
+
+parse-requires : tie.Need-parse-requires
+parse-requires c κs = search needs
+
+enum-known-found : tie.Need-enum-known-found
+enum-known-found c = search needs
+
+read-states-requires : tie.Need-read-states-requires
+read-states-requires c κs = fits _ _ (parses _ _ (sym (c .before .before .before .parse .ensures) ∙ c .before .found .given .1))
+
+enum-known-found-2 : tie.Need-enum-known-found-2
+enum-known-found-2 c = search needs
+
+returns : tie.Need-returns
+unfolding readOf parsedRead
+returns c = simp (sym (c .before .before .before .before .parse .ensures) ∙ c .before .before .found .given .1) (c .read-states .ensures)
+
+returns-2 : tie.Need-returns-2
+unfolding readOf parsedRead
+returns-2 c = simp (sym (c .before .before .before .parse .ensures) ∙ c .before .found2 .given .1)
+
+pub read-spec : {M : Type 1} → statement M
+read-spec =
+    tie.close
+    (tie.spec
+    parse-requires
+    enum-known-found
+    read-states-requires
+    enum-known-found-2
+    returns
+    returns-2)

@@ -1,0 +1,70 @@
+-- `reading::states::states` meets its contract: the variables left say what all of them do.
+-- Assumes nothing.
+use native.Mathlib.Omega.{arith}
+use mathlib.Core.Path.{refl, sym, ap, _∙_, _≡_}
+use Prim.Native.Nat.{ℕ, _+_, _*_, _<_, _≤_}
+use Rattle.reading.specs.States.{statesOf}
+use native.Mathlib.Nat.{mul-le-mul, lt-of-le-of-lt}
+use lib.Dec.{lit<}
+use Prim.Native.Nat.{_^_}
+use Rattle.reading.proofs.Steps.States.{states-none, states-over, states-step}
+use Rattle.reading.proofs.states.states.Statement.{statement}
+use Rattle.reading.proofs.states.states.Tie as tie
+use Rattle.reading.proofs.states.states.Reads as reads
+use Rattle.reading.proofs.states.states.Lts as lts
+use Rattle.reading.proofs.states.range_size.Reads as range-size-reads
+
+product-fits : (a b : ℕ) → a ≤ 1048576 → b ≤ 65536 → a * b < 2 ^ 64
+product-fits a b p q = lt-of-le-of-lt (mul-le-mul p q) (lit< tt)
+
+abbrev Inv-loop : tie.InvT-loop
+Inv-loop file vars left₀ at₀ product₀ left at product = (statesOf file vars 0 1 ≡ statesOf file left at product) × ((at + left ≡ vars) × (product ≤ 1048576))
+
+abbrev μ-loop : tie.MeasureT-loop
+μ-loop file vars left₀ at₀ product₀ left at product = left
+
+loop-holds : tie.Need-loop-holds Inv-loop μ-loop
+loop-holds c = (refl, omega arith)
+
+range-size-requires : tie.Need-range-size-requires Inv-loop μ-loop
+range-size-requires c κs =
+    let r = c .before .before .before .pre in
+    let i = c .before .loop .inv in
+    (omega arith, r .ordered _ (omega arith))
+
+mul-next : tie.Need-mul-next Inv-loop μ-loop
+mul-next c = record { fits = product-fits _ _ (c .before .before .loop .inv .1 .1) (c .range-size .ensures .1) }
+
+returns : tie.Need-returns Inv-loop μ-loop
+returns c = sym (c .before .before .before .loop .inv .0 ∙ states-over _ _ _ _ (ap (λ (n : ℕ). c .before .before .before .loop .product * n) (c .before .range-size .ensures .0)) _ (c .before .before .loop-test .taken) (c .if1 .taken))
+
+add-at : tie.Need-add-at Inv-loop μ-loop
+add-at c = omega arith
+
+sub-left : tie.Need-sub-left Inv-loop μ-loop
+sub-left c = omega arith
+
+loop-less : tie.Need-loop-less Inv-loop μ-loop
+loop-less c = omega arith
+
+loop-again : tie.Need-loop-again Inv-loop μ-loop
+loop-again c = (c .before .before .before .loop .inv .0 ∙ states-step _ _ _ _ (ap (λ (n : ℕ). c .before .before .before .loop .product * n) (c .before .range-size .ensures .0)) _ (c .before .before .loop-test .taken) (c .if1 .left), omega arith)
+
+returns-2 : tie.Need-returns-2 Inv-loop μ-loop
+returns-2 c = sym (c .before .loop .inv .0 ∙ states-none _ _ _ _ (c .loop-test .left))
+
+pub states-spec : {M : Type 1} → statement M
+states-spec =
+    tie.close
+    (tie.spec
+    Inv-loop
+    μ-loop
+    loop-holds
+    range-size-requires
+    mul-next
+    returns
+    add-at
+    sub-left
+    loop-less
+    loop-again
+    returns-2)

@@ -1,0 +1,79 @@
+-- The edge rules (document 01, "Edge rules"): refusal 9 at the first edge that breaks one, given the edges before it, and refusal 10 at the
+-- lowest chain node that lacks its double edge.
+use Prim.Native.Nat.{ℕ, _+_, _-_, _*_, _/_, _≤_}
+use mathlib.Core.Bool.{Bool, true, false, cond, not, _&&_, _||_}
+use mathlib.Core.List.{List}
+use lib.ListN.{length}
+use lib.Dec.{ltb, leb, eqb}
+use Rattle.parsing.specs.declared.walk.Walked.{Walked}
+use Rattle.parsing.specs.declared.outline.Outline.{Outline}
+use Rattle.parsing.specs.Walk.{inSequence}
+use Rattle.parsing.specs.Record.{fieldA, fieldB, fieldC, fieldD}
+use Rattle.parsing.specs.Section.{transitionOf}
+use Rattle.reading.specs.States.{Ranges}
+use Rattle.reading.specs.Search.{any, refuseFirst}
+
+-- an edge: a transition, b from, c to, d = 0 single, 1 double
+abbrev pub single : List ℕ → ℕ → Bool
+single file at = eqb (fieldD file at) 0
+
+abbrev pub double : List ℕ → ℕ → Bool
+double file at = eqb (fieldD file at) 1
+
+-- the property's a: 1 invariance, 2 wait-for, 3 chain
+abbrev pub diagram : List ℕ → Outline → ℕ
+diagram file o = fieldA file (o .property)
+
+-- "from node 1 up, target not above source"
+unfoldable pub descending : List ℕ → ℕ → Bool
+descending file at = leb 1 (fieldB file at) && leb (fieldC file at) (fieldB file at)
+
+-- transition t is just
+unfoldable pub justAt : List ℕ → Walked → Bool
+justAt file (Walked.End place) = eqb (fieldA file place) 1
+justAt file (Walked.Refused number place) = false
+
+unfoldable pub justOf : List ℕ → Outline → ℕ → Bool
+justOf file o t = justAt file (inSequence (transitionOf file (o .vars)) t (o .transition))
+
+-- "one double transition per node, never also single there": of two edges from one node, those of one transition are both single or both
+-- double, and those of two transitions are not both double
+unfoldable pub conflictOf : List ℕ → ℕ → ℕ → Bool
+conflictOf file i j =
+    eqb (fieldB file i) (fieldB file j)
+    && cond (eqb (fieldA file i) (fieldA file j)) (not (eqb (fieldD file i) (fieldD file j))) (double file i && double file j)
+
+-- a chain's edge that descends: it conflicts with no edge before it; it is single, or it is double, strictly down and on a just transition
+unfoldable pub chainRuleOf : List ℕ → Outline → ℕ → Bool
+chainRuleOf file o at =
+    not (any (λ e. conflictOf file e at) (at - o .edge) (o .edge))
+    && (single file at || (ltb (fieldC file at) (fieldB file at) && justOf file o (fieldA file at)))
+
+-- "Invariance: single only. Wait-for: single, from node 1 up, target not above source. Chain: likewise, double strictly down, on just
+-- transitions, one double transition per node, never also single there"
+unfoldable pub ruleOf : List ℕ → Outline → ℕ → Bool
+ruleOf file o at =
+    cond (eqb (diagram file o) 1) (single file at)
+    (descending file at && cond (eqb (diagram file o) 2) (single file at) (chainRuleOf file o at))
+
+unfoldable pub rulesOf : List ℕ → Outline → Walked
+rulesOf file o = refuseFirst 9 (ruleOf file o) (o .edges) (o .edge)
+
+-- "each node from 1 up has a double edge"
+unfoldable pub doubleFrom : List ℕ → ℕ → ℕ → Bool
+doubleFrom file node at = double file at && eqb (fieldB file at) node
+
+unfoldable pub doubledOf : List ℕ → Outline → ℕ → Bool
+doubledOf file o node = any (doubleFrom file node) (o .edges) (o .edge)
+
+unfoldable pub doublesOf : List ℕ → Outline → Walked
+doublesOf file o = cond (eqb (diagram file o) 3) (refuseFirst 10 (doubledOf file o) (o .nodes - 1) 1) (Walked.End 0)
+
+-- the outline stays within the file
+pub record Fits (file : List ℕ) (o : Outline) : Type 0 where
+  pub vars-most : o .vars ≤ 12
+  pub ranges : Ranges file (o .vars)
+  pub transition-here : o .transition ≤ length file / 8
+  pub property-here : 8 * o .property + 8 ≤ length file
+  pub edges-here : 8 * (o .edge + o .edges) ≤ length file
+  pub nodes-most : o .nodes ≤ 32

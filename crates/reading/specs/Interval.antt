@@ -1,0 +1,87 @@
+-- The interval of a number expression, and refusal 8: "An interval goes out of bounds, operands judged first, left before right .. it is the record whose
+-- own interval goes out, expressions taken in file order."
+use Prim.Native.Nat.{ℕ, zero, suc, _+_, _*_, _/_}
+use mathlib.Core.Bool.{cond}
+use mathlib.Core.List.{List}
+use lib.ListN.{length}
+use lib.Dec.{ltb, eqb}
+use lib.IntN.{ℤ, pos, _+ℤ_, _-ℤ_, _*ℤ_}
+use Rattle.integers.specs.declared.Interval.{Interval}
+use Rattle.integers.specs.Interval.{overEnds, inBounds}
+use Rattle.parsing.specs.declared.kinds.Form.{Form}
+use Rattle.parsing.specs.declared.kinds.Form.the-variants.{Constant, Variable, Arithmetic, Indicator, Literal, Negation, Connective, Comparison, Unfit}
+use Rattle.parsing.specs.declared.walk.Walked.{Walked}
+use Rattle.parsing.specs.Record.{kindAt, fieldA, valueB, valueC}
+use Rattle.parsing.specs.Kind.{none, formAt, signatureAt}
+use Rattle.reading.specs.declared.intervals.Analysis.{Analysis}
+
+abbrev pub interval : ℤ → ℤ → Interval
+interval l h = record { low = l; high = h }
+
+-- "0..1 for an indicator"; a truth counts as its indicator
+abbrev pub unit : Interval
+unit = interval (pos 0) (pos 1)
+
+-- the interval of a record with no operand: "a constant's own value, a variable's range"
+unfoldable pub leafOf : List ℕ → ℕ → Form → Interval
+leafOf file at Constant = interval (valueB file at) (valueB file at)
+leafOf file at Variable = interval (valueB file (fieldA file at)) (valueC file (fieldA file at))
+leafOf file at Arithmetic = unit
+leafOf file at Indicator = unit
+leafOf file at Literal = unit
+leafOf file at Negation = unit
+leafOf file at Connective = unit
+leafOf file at Comparison = unit
+leafOf file at Unfit = unit
+
+-- 12 sum, 13 difference, 14 product
+unfoldable pub combine : ℕ → ℤ → ℤ → ℤ
+combine kind = cond (eqb kind 0x12) _+ℤ_ (cond (eqb kind 0x13) _-ℤ_ _*ℤ_)
+
+-- the interval of a record with two operands: "sum, difference and product take the least and greatest result over the operands' ends"
+unfoldable pub joinOf : ℕ → Form → Interval → Interval → Interval
+joinOf kind Constant i j = unit
+joinOf kind Variable i j = unit
+joinOf kind Arithmetic i j = overEnds (combine kind) i j
+joinOf kind Indicator i j = unit
+joinOf kind Literal i j = unit
+joinOf kind Negation i j = unit
+joinOf kind Connective i j = unit
+joinOf kind Comparison i j = unit
+joinOf kind Unfit i j = unit
+
+-- a record's own interval, once its operands are judged
+unfoldable pub ownOf : Interval → ℕ → ℕ → Analysis
+ownOf i end at = cond (inBounds i) (Analysis.Within i end) (Analysis.Out at)
+
+abbrev pub andInterval : Analysis → (Interval → ℕ → Analysis) → Analysis
+andInterval (Analysis.Within i end) next = next i end
+andInterval (Analysis.Out place) next = Analysis.Out place
+
+-- a record at `at` with n operands, each judged by `operand`
+unfoldable pub byOperands : List ℕ → ℕ → (ℕ → Analysis) → ℕ → Analysis
+byOperands file at operand zero = ownOf (leafOf file at (formAt file at)) (at + 1) at
+byOperands file at operand (suc zero) = andInterval (operand (at + 1)) λ i end. ownOf unit end at
+byOperands file at operand (suc (suc n)) =
+    andInterval (operand (at + 1)) λ i next. andInterval (operand next) λ j end. ownOf (joinOf (kindAt file at) (formAt file at) i j) end at
+
+-- the expression at record `at`, which nests within `levels`
+unfoldable pub analysisOf : List ℕ → ℕ → ℕ → Analysis
+analysisOf file zero at = Analysis.Out at
+analysisOf file (suc levels) at =
+    cond (ltb at (length file / 8)) (byOperands file at (analysisOf file levels) (signatureAt file at .operands)) (Analysis.Out at)
+
+-- every expression, in file order, from record `at` on, with at most `left` records left: a record that begins none is passed over
+abbrev pub andExpression : Analysis → (ℕ → Walked) → Walked
+andExpression (Analysis.Within i end) next = next end
+andExpression (Analysis.Out place) next = Walked.Refused 8 place
+
+unfoldable pub analysedFrom : List ℕ → ℕ → ℕ → Walked
+analysedFrom file zero at = Walked.End at
+analysedFrom file (suc left) at =
+    cond (ltb at (length file / 8))
+    (cond (eqb (signatureAt file at .sort) none) (analysedFrom file left (at + 1)) (andExpression (analysisOf file 16 at) (analysedFrom file left)))
+    (Walked.End at)
+
+unfoldable pub intervalsOf : List ℕ → Walked
+intervalsOf file = analysedFrom file (length file / 8) 0

@@ -1,0 +1,7 @@
+-- Refusals 7 to 10, in their order, and the whole.
+pub mod Search
+pub mod States
+pub mod Interval
+pub mod Edge
+pub mod Read
+pub mod Readable

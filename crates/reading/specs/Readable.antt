@@ -1,0 +1,107 @@
+-- What is promised of a readable file, for the layers above: its expressions, transitions, nodes, edges and double transitions.
+use mathlib.Core.Path.{_≡_}
+use mathlib.Core.Bool.{true, false}
+use mathlib.Core.List.{List, [], _∷_}
+use Prim.Native.Nat.{ℕ, _+_, _/_, _<_, _≤_}
+use lib.ListN.{length}
+use Rattle.integers.specs.declared.Interval.{Interval}
+use Rattle.parsing.specs.declared.walk.Walked.{Walked}
+use Rattle.parsing.specs.declared.outline.Outline.{Outline}
+use Rattle.parsing.specs.Record.{kindAt, fieldA, fieldB, fieldC, fieldD, kindIs}
+use Rattle.parsing.specs.Kind.{number, truth, formAt, signatureAt}
+use Rattle.parsing.specs.Walk.{expressionFields, inSequence, walkOf, truthOf}
+use Rattle.parsing.specs.Section.{transitionFields, transitionOf, nodeOf}
+use Rattle.reading.specs.declared.intervals.Analysis.{Analysis}
+use Rattle.reading.specs.Interval.{unit, leafOf, joinOf, analysisOf}
+use Rattle.reading.specs.Edge.{justOf}
+
+-- ---- expressions
+-- an expression of sort `want` at record `at`, with `levels` nesting levels left: it ends before record `end`, and its interval is i, in bounds as
+-- those of all its records are
+pub record Expression (file : List ℕ) (vars levels want at end : ℕ) (i : Interval) : Type 0 where
+  pub walks : walkOf file vars levels want at ≡ Walked.End end
+  pub bounds : analysisOf file levels at ≡ Analysis.Within i end
+
+-- its operands, by how many there are, one level further in, and its interval by theirs
+pub data Operands (file : List ℕ) (vars levels at end : ℕ) : Interval → Type 0 where
+  none : signatureAt file at .operands ≡ 0 → end ≡ at + 1 → Operands file vars levels at end (leafOf file at (formAt file at))
+  one : {j : Interval} → signatureAt file at .operands ≡ 1 → Expression file vars levels (signatureAt file at .over) (at + 1) end j
+      → Operands file vars levels at end unit
+  two : {mid : ℕ} {j k : Interval} → signatureAt file at .operands ≡ 2 → Expression file vars levels (signatureAt file at .over) (at + 1) mid j
+      → Expression file vars levels (signatureAt file at .over) mid end k → Operands file vars levels at end (joinOf (kindAt file at) (formAt file at) j k)
+
+-- its own record and its operands
+pub record Opened (file : List ℕ) (vars levels want at end : ℕ) (i : Interval) : Type 0 where
+  pub here : at < length file / 8
+  pub sort : signatureAt file at .sort ≡ want
+  pub fields : expressionFields file vars at ≡ true
+  pub operands : Operands file vars levels at end i
+
+-- ---- the start
+pub record Start (file : List ℕ) (o : Outline) : Type 0 where
+  pub interval : Interval
+  pub expression : Expression file (o .vars) 16 truth (o .vars + 1) (o .transition) interval
+
+-- ---- transitions
+-- a is none of the variables vs
+abbrev pub Apart : ℕ → List ℕ → Type 0
+Apart a [] = Unit {0}
+Apart a (v ∷ vs) = (a ≡ v → ⊥) × Apart a vs
+
+-- the assignments from record `at` on, to the variables listed, each assigned once; the next record is none
+pub data Assignments (file : List ℕ) (vars end : ℕ) : ℕ → List ℕ → Type 0 where
+  none : kindIs file 0x04 end ≡ false → Assignments file vars end end []
+  more : {at mid : ℕ} {i : Interval} {vs : List ℕ} → kindIs file 0x04 at ≡ true → fieldA file at < vars → Expression file vars 16 number (at + 1) mid i
+      → Assignments file vars end mid vs → Apart (fieldA file at) vs → Assignments file vars end at (fieldA file at ∷ vs)
+
+-- transition t: it stands at `place`, behind t others; then its guard, to `behind`; then its assignments
+pub record Transition (file : List ℕ) (o : Outline) (t : ℕ) : Type 0 where
+  pub place : ℕ
+  pub behind : ℕ
+  pub end : ℕ
+  pub reached : inSequence (transitionOf file (o .vars)) t (o .transition) ≡ Walked.End place
+  pub named : kindIs file 0x03 place ≡ true
+  pub just-or-not : fieldA file place ≤ 1
+  pub interval : Interval
+  pub guard : Expression file (o .vars) 16 truth (place + 1) behind interval
+  pub assigned : List ℕ
+  pub assignments : Assignments file (o .vars) end behind assigned
+
+-- ---- the property's expressions and the nodes
+-- expression i of the property: it stands at `place`, behind i others
+pub record Claimed (file : List ℕ) (o : Outline) (i : ℕ) : Type 0 where
+  pub place : ℕ
+  pub end : ℕ
+  pub reached : inSequence (truthOf file (o .vars)) i (o .property + 1) ≡ Walked.End place
+  pub interval : Interval
+  pub expression : Expression file (o .vars) 16 truth place end interval
+
+-- node n: it stands at `place`, behind n others; then its assertion
+pub record Node (file : List ℕ) (o : Outline) (n : ℕ) : Type 0 where
+  pub place : ℕ
+  pub end : ℕ
+  pub reached : inSequence (nodeOf file (o .vars)) n (o .node) ≡ Walked.End place
+  pub named : kindIs file 0x06 place ≡ true
+  pub interval : Interval
+  pub assertion : Expression file (o .vars) 16 truth (place + 1) end interval
+
+-- ---- edges
+-- edge e names a transition and two nodes of the file, and is single or double
+pub record Edge (file : List ℕ) (o : Outline) (e : ℕ) : Type 0 where
+  pub transition : fieldA file (o .edge + e) < o .transitions
+  pub from : fieldB file (o .edge + e) < o .nodes
+  pub to : fieldC file (o .edge + e) < o .nodes
+  pub double : fieldD file (o .edge + e) ≤ 1
+
+-- the one double transition of a chain's node: it is just, a double edge carries it from the node, and so does no single one
+pub record DoubleTransition (file : List ℕ) (o : Outline) (node : ℕ) : Type 0 where
+  pub transition : ℕ
+  pub there : transition < o .transitions
+  pub just : justOf file o transition ≡ true
+  pub edge : ℕ
+  pub edge-there : edge < o .edges
+  pub edge-from : fieldB file (o .edge + edge) ≡ node
+  pub edge-double : fieldD file (o .edge + edge) ≡ 1
+  pub edge-carries : fieldA file (o .edge + edge) ≡ transition
+  pub only : (e : ℕ) → e < o .edges → fieldB file (o .edge + e) ≡ node → fieldD file (o .edge + e) ≡ 1 → fieldA file (o .edge + e) ≡ transition
+  pub never-single : (e : ℕ) → e < o .edges → fieldB file (o .edge + e) ≡ node → fieldA file (o .edge + e) ≡ transition → fieldD file (o .edge + e) ≡ 1

@@ -1,0 +1,133 @@
+// The interval of every number expression, from the variables' ranges: refusal 8.
+use integers::Interval;
+use parsing::kinds::Form;
+use parsing::kinds::NONE;
+use parsing::kinds::form_of;
+use parsing::kinds::signature_at;
+use parsing::kinds::signature_of;
+use parsing::records::wide_value_at;
+use parsing::walk::Walked;
+ghost use mathlib.Core.Path.{_≡_};
+ghost use Prim.Native.Nat.{_+_, _*_, _≤_};
+ghost use lib.ListN.{length};
+ghost use Rattle.integers.specs.Interval.{Bounded, overEnds};
+ghost use Rattle.reading.specs.Interval.{leafOf, combine, joinOf, ownOf, analysisOf, intervalsOf};
+
+// The interval of an expression and the record behind it, or the record whose own interval goes out of bounds.
+pub enum Analysis {
+    Within(Interval, usize),
+    Out(usize),
+}
+
+// The interval of a record with no operand.
+fn leaf(file: &[u8], at: usize, form: Form) -> Interval
+    requires { ⌜ 8 * at + 8 ≤ length (now file) ⌝ }
+    ensures { λ r. ⌜ r ≡ leafOf (now (file .entry)) at form ⌝ }
+{
+    match form {
+        Form::Constant => {
+            let value = wide_value_at(file, 8 * at + 2);
+            Interval {
+                low: value,
+                high: value,
+            }
+        }
+        Form::Variable => {
+            let variable = 8 * (file[8 * at + 1] as usize);
+            let low = wide_value_at(file, variable + 2);
+            let high = wide_value_at(file, variable + 4);
+            Interval { low, high }
+        }
+        _ => Interval { low: 0, high: 1 },
+    }
+}
+
+// Sum, difference or product of two intervals.
+fn combined(kind: u8, i: Interval, j: Interval) -> Interval
+    requires left { ⌜ Bounded i ⌝ }
+    requires right { ⌜ Bounded j ⌝ }
+    ensures { λ r. ⌜ r ≡ overEnds (combine kind) i j ⌝ }
+{
+    if kind == 0x12 {
+        return integers::intervals::sum(i, j);
+    }
+    if kind == 0x13 {
+        return integers::intervals::difference(i, j);
+    }
+    integers::intervals::product(i, j)
+}
+
+// The interval of a record with two operands.
+fn join(kind: u8, form: Form, i: Interval, j: Interval) -> Interval
+    requires left { ⌜ Bounded i ⌝ }
+    requires right { ⌜ Bounded j ⌝ }
+    ensures { λ r. ⌜ r ≡ joinOf kind form i j ⌝ }
+{
+    match form {
+        Form::Arithmetic => combined(kind, i, j),
+        _ => Interval { low: 0, high: 1 },
+    }
+}
+
+// A record's own interval, once its operands are judged.
+fn own(i: Interval, end: usize, at: usize) -> Analysis
+    ensures { λ r. ⌜ r ≡ ownOf i end at ⌝ }
+{
+    if integers::intervals::in_bounds(i) {
+        return Analysis::Within(i, end);
+    }
+    Analysis::Out(at)
+}
+
+// Analyses the expression at record `at`: operands first, left before right.
+pub fn analyse(file: &[u8], levels: usize, at: usize) -> Analysis
+    ensures { λ r. ⌜ r ≡ analysisOf (now (file .entry)) levels at ⌝ }
+{
+    if levels == 0 {
+        return Analysis::Out(at);
+    }
+    if file.len() / 8 <= at {
+        return Analysis::Out(at);
+    }
+    let kind = file[8 * at];
+    let form = form_of(kind);
+    let operands = signature_of(form).operands;
+    if operands == 0 {
+        return own(leaf(file, at, form), at + 1, at);
+    }
+    let left = analyse(file, levels - 1, at + 1);
+    match left {
+        Analysis::Within(i, next) => {
+            if operands == 1 {
+                return own(Interval { low: 0, high: 1 }, next, at);
+            }
+            let right = analyse(file, levels - 1, next);
+            match right {
+                Analysis::Within(j, end) => own(join(kind, form, i, j), end, at),
+                Analysis::Out(place) => Analysis::Out(place),
+            }
+        }
+        Analysis::Out(place) => Analysis::Out(place),
+    }
+}
+
+// Analyses every expression of the file, in file order: refusal 8 at the first record whose own interval goes out of bounds.
+pub fn intervals(file: &[u8]) -> Walked
+    ensures { λ r. ⌜ r ≡ intervalsOf (now (file .entry)) ⌝ }
+{
+    let records = file.len() / 8;
+    let mut at: usize = 0;
+    while at < records {
+        let sort = signature_at(file, at).sort;
+        if sort == NONE {
+            at += 1;
+        } else {
+            let analysis = analyse(file, 16, at);
+            match analysis {
+                Analysis::Within(_, end) => at = end,
+                Analysis::Out(place) => return Walked::Refused(8, place),
+            }
+        }
+    }
+    Walked::End(at)
+}

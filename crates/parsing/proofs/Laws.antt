@@ -2,5 +2,6 @@
 pub mod Walk
 pub mod Span
 pub mod Section
+pub mod Place
 pub mod Outline
 pub mod Parsed

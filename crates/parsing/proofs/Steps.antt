@@ -3,3 +3,4 @@ pub mod Record
 pub mod Walk
 pub mod Kind
 pub mod Section
+pub mod Place

@@ -3,4 +3,5 @@ pub mod Record
 pub mod Kind
 pub mod Walk
 pub mod Section
+pub mod Place
 pub mod Outline

@@ -11,7 +11,7 @@ use crate::walk::walk;
 ghost use mathlib.Core.Path.{_≡_};
 ghost use Prim.Native.Nat.{_+_, _*_, _/_, _≤_, _<_};
 ghost use lib.ListN.{length, replicate};
-ghost use Rattle.parsing.specs.Walk.{inSequence};
+ghost use Rattle.parsing.specs.Place.{placesOf};
 ghost use Rattle.parsing.specs.Section.{variableFields, transitionFields, assignmentFields, propertyFields, edgeFields, variablesOf, assignmentsOf, transitionOf, transitionsOf, expressionsOf, leastNodes, mostNodes, nodeOf, nodesOf, repeatedOf, edgesOf};
 
 // Where a section ends: how many items it has and the record behind it, or refused, with the number and the record.
@@ -189,22 +189,24 @@ pub fn transitions(file: &[u8], vars: usize, from: usize) -> Section
     Section::Items(count, at)
 }
 
-// Where transition t stands, from the first one on.
-pub fn transition_at(file: &[u8], vars: usize, first: usize, t: usize) -> Walked
-    requires { ⌜ (vars ≤ 12) × (first ≤ length (now file) / 8) ⌝ }
-    ensures { λ r. ⌜ r ≡ inSequence (transitionOf (now (file .entry)) vars) t first ⌝ }
+// Where each of the n transitions from record `first` on stands.
+pub fn transition_places(file: &[u8], vars: usize, n: usize, first: usize) -> [usize; 32]
+    requires { ⌜ (vars ≤ 12) × (n ≤ 32) × (first ≤ length (now file) / 8) ⌝ }
+    ensures { λ r. ⌜ r ≡ placesOf (transitionOf (now (file .entry)) vars) n first ⌝ }
 {
-    let mut left = t;
+    let mut places = [0usize; 32];
     let mut next = first;
-    while 0 < left {
+    let mut i: usize = 0;
+    while i < n {
+        places[i] = next;
         let item = transition(file, vars, next);
         match item {
             Walked::End(end) => next = end,
-            Walked::Refused(number, place) => return Walked::Refused(number, place),
+            Walked::Refused(_, _) => return places,
         }
-        left -= 1;
+        i += 1;
     }
-    Walked::End(next)
+    places
 }
 
 // How many expressions follow the property at `at`.
@@ -268,22 +270,24 @@ pub fn nodes(file: &[u8], vars: usize, most: usize, from: usize) -> Section
     Section::Items(count, at)
 }
 
-// Where node n stands, from the first one on.
-pub fn node_at(file: &[u8], vars: usize, first: usize, n: usize) -> Walked
-    requires { ⌜ first ≤ length (now file) / 8 ⌝ }
-    ensures { λ r. ⌜ r ≡ inSequence (nodeOf (now (file .entry)) vars) n first ⌝ }
+// Where each of the n nodes from record `first` on stands.
+pub fn node_places(file: &[u8], vars: usize, n: usize, first: usize) -> [usize; 32]
+    requires { ⌜ (n ≤ 32) × (first ≤ length (now file) / 8) ⌝ }
+    ensures { λ r. ⌜ r ≡ placesOf (nodeOf (now (file .entry)) vars) n first ⌝ }
 {
-    let mut left = n;
+    let mut places = [0usize; 32];
     let mut next = first;
-    while 0 < left {
+    let mut i: usize = 0;
+    while i < n {
+        places[i] = next;
         let item = walk(file, next + 1, TRUTH, vars, 16);
         match item {
             Walked::End(end) => next = end,
-            Walked::Refused(number, place) => return Walked::Refused(number, place),
+            Walked::Refused(_, _) => return places,
         }
-        left -= 1;
+        i += 1;
     }
-    Walked::End(next)
+    places
 }
 
 // Whether one of the n edges from `first` on has the a, b and c of the edge at `at`.

@@ -1,7 +1,8 @@
 -- The edge rules (document 01, "Edge rules"): refusal 9 at the first edge that breaks one, given the edges before it, and refusal 10 at the
 -- lowest chain node that lacks its double edge.
-use Prim.Native.Nat.{ℕ, _+_, _-_, _*_, _/_, _≤_}
-use mathlib.Core.Bool.{Bool, true, false, cond, not, _&&_, _||_}
+use mathlib.Core.Path.{_≡_}
+use Prim.Native.Nat.{ℕ, _+_, _-_, _*_, _/_, _<_, _≤_}
+use mathlib.Core.Bool.{Bool, cond, not, _&&_, _||_}
 use mathlib.Core.List.{List}
 use lib.ListN.{length}
 use lib.Dec.{ltb, leb, eqb}
@@ -10,6 +11,7 @@ use Rattle.parsing.specs.declared.outline.Outline.{Outline}
 use Rattle.parsing.specs.Walk.{inSequence}
 use Rattle.parsing.specs.Record.{fieldA, fieldB, fieldC, fieldD}
 use Rattle.parsing.specs.Section.{transitionOf}
+use Rattle.parsing.specs.Place.{placeOf, placesOf}
 use Rattle.reading.specs.States.{Ranges}
 use Rattle.reading.specs.Search.{any, refuseFirst}
 
@@ -28,13 +30,12 @@ diagram file o = fieldA file (o .property)
 unfoldable pub descending : List ℕ → ℕ → Bool
 descending file at = leb 1 (fieldB file at) && leb (fieldC file at) (fieldB file at)
 
--- transition t is just
-unfoldable pub justAt : List ℕ → Walked → Bool
-justAt file (Walked.End place) = eqb (fieldA file place) 1
-justAt file (Walked.Refused number place) = false
+-- where transition t stands, and whether it is just (a = 1)
+unfoldable pub transitionAt : List ℕ → Outline → ℕ → ℕ
+transitionAt file o t = placeOf (inSequence (transitionOf file (o .vars)) t (o .transition))
 
 unfoldable pub justOf : List ℕ → Outline → ℕ → Bool
-justOf file o t = justAt file (inSequence (transitionOf file (o .vars)) t (o .transition))
+justOf file o t = eqb (fieldA file (transitionAt file o t)) 1
 
 -- "one double transition per node, never also single there": of two edges from one node, those of one transition are both single or both
 -- double, and those of two transitions are not both double
@@ -69,11 +70,22 @@ doubledOf file o node = any (doubleFrom file node) (o .edges) (o .edge)
 unfoldable pub doublesOf : List ℕ → Outline → Walked
 doublesOf file o = cond (eqb (diagram file o) 3) (refuseFirst 10 (doubledOf file o) (o .nodes - 1) 1) (Walked.End 0)
 
--- the outline stays within the file
+-- ---- what the code asks
+-- the outline stays within the file, its counts within their limits, and its edges name its transitions
 pub record Fits (file : List ℕ) (o : Outline) : Type 0 where
   pub vars-most : o .vars ≤ 12
   pub ranges : Ranges file (o .vars)
   pub transition-here : o .transition ≤ length file / 8
+  pub transitions-most : o .transitions ≤ 32
   pub property-here : 8 * o .property + 8 ≤ length file
-  pub edges-here : 8 * (o .edge + o .edges) ≤ length file
   pub nodes-most : o .nodes ≤ 32
+  pub edges-here : 8 * (o .edge + o .edges) ≤ length file
+  pub edges-named : (e : ℕ) → e < o .edges → fieldA file (o .edge + e) < o .transitions
+
+-- an edge's record at `at`, and the places of the transitions
+pub record EdgeFits (file : List ℕ) (o : Outline) (places : List ℕ) (at : ℕ) : Type 0 where
+  pub outline : Fits file o
+  pub found : places ≡ placesOf (transitionOf file (o .vars)) (o .transitions) (o .transition)
+  pub here : 8 * at + 8 ≤ length file
+  pub behind : o .edge ≤ at
+  pub named : fieldA file at < o .transitions

@@ -2,13 +2,15 @@
 use parsing::outline::Outline;
 use parsing::records::byte_at;
 use parsing::records::word_at;
-use parsing::sections::transition_at;
+use parsing::sections::transition_places;
 use parsing::walk::Walked;
 ghost use mathlib.Core.Path.{_≡_};
-ghost use Prim.Native.Nat.{_+_, _*_, _≤_};
+ghost use Prim.Native.Nat.{_+_, _*_, _≤_, _<_};
 ghost use lib.ListN.{length};
+ghost use Rattle.parsing.specs.Section.{transitionOf};
+ghost use Rattle.parsing.specs.Place.{placesOf};
 ghost use Rattle.reading.specs.Search.{any};
-ghost use Rattle.reading.specs.Edge.{descending, conflictOf, justOf, chainRuleOf, ruleOf, rulesOf, doubleFrom, doubledOf, doublesOf, Fits};
+ghost use Rattle.reading.specs.Edge.{descending, conflictOf, justOf, chainRuleOf, ruleOf, rulesOf, doubleFrom, doubledOf, doublesOf, Fits, EdgeFits};
 
 // Whether two edges conflict: from one node, either of one transition, single and double, or both double.
 fn conflict(file: &[u8], i: usize, j: usize) -> bool
@@ -46,18 +48,15 @@ fn conflicts(file: &[u8], at: usize, first: usize, n: usize) -> bool
     false
 }
 
-// Whether transition t is just.
-fn just(file: &[u8], outline: Outline, t: usize) -> bool
-    requires { ⌜ Fits (now file) outline ⌝ }
+// Whether transition t is just, where `places` has the transitions' records.
+fn just(file: &[u8], outline: Outline, places: [usize; 32], t: usize) -> bool
+    requires outline { ⌜ Fits (now file) outline ⌝ }
+    requires found { ⌜ places ≡ placesOf (transitionOf (now file) (outline .vars)) (outline .transitions) (outline .transition) ⌝ }
+    requires there { ⌜ t < outline .transitions ⌝ }
     ensures { λ r. ⌜ r ≡ justOf (now (file .entry)) outline t ⌝ }
 {
-    let vars = outline.vars;
-    let first = outline.transition;
-    let found = transition_at(file, vars, first, t);
-    match found {
-        Walked::End(place) => byte_at(file, 8 * place + 1) == 1,
-        Walked::Refused(_, _) => false,
-    }
+    let place = places[t];
+    byte_at(file, 8 * place + 1) == 1
 }
 
 // Whether the edge at `at` goes from node 1 up to a node not above.
@@ -73,9 +72,8 @@ fn descends(file: &[u8], at: usize) -> bool
 }
 
 // Whether a chain's edge that descending obeys the rules of double edges.
-fn chain_rule(file: &[u8], outline: Outline, at: usize) -> bool
-    requires outline { ⌜ Fits (now file) outline ⌝ }
-    requires edge { ⌜ (8 * at + 8 ≤ length (now file)) × (outline .edge ≤ at) ⌝ }
+fn chain_rule(file: &[u8], outline: Outline, places: [usize; 32], at: usize) -> bool
+    requires { ⌜ EdgeFits (now file) outline places at ⌝ }
     ensures { λ r. ⌜ r ≡ chainRuleOf (now (file .entry)) outline at ⌝ }
 {
     let first = outline.edge;
@@ -86,15 +84,14 @@ fn chain_rule(file: &[u8], outline: Outline, at: usize) -> bool
         return true;
     }
     if word_at(file, 8 * at + 4) < word_at(file, 8 * at + 2) {
-        return just(file, outline, file[8 * at + 1] as usize);
+        return just(file, outline, places, file[8 * at + 1] as usize);
     }
     false
 }
 
 // Whether the edge at `at` obeys the edge rules, given the edges before it.
-fn rule(file: &[u8], outline: Outline, at: usize) -> bool
-    requires outline { ⌜ Fits (now file) outline ⌝ }
-    requires edge { ⌜ (8 * at + 8 ≤ length (now file)) × (outline .edge ≤ at) ⌝ }
+fn rule(file: &[u8], outline: Outline, places: [usize; 32], at: usize) -> bool
+    requires { ⌜ EdgeFits (now file) outline places at ⌝ }
     ensures { λ r. ⌜ r ≡ ruleOf (now (file .entry)) outline at ⌝ }
 {
     let property = outline.property;
@@ -109,7 +106,7 @@ fn rule(file: &[u8], outline: Outline, at: usize) -> bool
     if diagram == 2 {
         return single;
     }
-    chain_rule(file, outline, at)
+    chain_rule(file, outline, places, at)
 }
 
 // Refusal 9 at the first edge that breaks a rule.
@@ -117,10 +114,11 @@ pub fn rules(file: &[u8], outline: Outline) -> Walked
     requires { ⌜ Fits (now file) outline ⌝ }
     ensures { λ r. ⌜ r ≡ rulesOf (now (file .entry)) outline ⌝ }
 {
+    let places = transition_places(file, outline.vars, outline.transitions, outline.transition);
     let mut left = outline.edges;
     let mut at = outline.edge;
     while 0 < left {
-        if !rule(file, outline, at) {
+        if !rule(file, outline, places, at) {
             return Walked::Refused(9, at);
         }
         at += 1;

@@ -1,7 +1,7 @@
 -- Laws of a file that parses.
 --     variables-most, transitions-most, nodes-least, nodes-most, edges-most     its counts lie within their limits
---     variable-fields, edge-fields     each variable's and each edge's record passed its test
 --     variable-range     a variable's range is not empty
+--     edge-transition, edge-from, edge-to, edge-double     an edge names a transition and nodes of the file, and is single or double
 --     edges-end      the edges, of one record each, end the file
 --     edge-new       no edge repeats an earlier one
 -- Assumes nothing.
@@ -10,14 +10,14 @@ use mathlib.Core.Bool.{Bool, true, false, cond, _&&_, _||_, and-eq-true-iff}
 use mathlib.Core.List.{List}
 use Prim.Native.Nat.{ℕ, zero, suc, _+_, _-_, _*_, _/_, _<_, _≤_}
 use native.Mathlib.Omega.{arith}
-use borrow.Author.Tests.{leb-true}
+use borrow.Author.Tests.{ltb-true, leb-true}
 use lib.ListN.{length}
-use lib.Dec.{leb, eqb}
+use lib.Dec.{ltb, leb, eqb}
 use lib.Signed.{leZ, _≤ℤ_}
 use Rattle.integers.proofs.Parts.{parts-≤, leZ-true}
 use Rattle.parsing.specs.declared.walk.Walked.{Walked}
 use Rattle.parsing.specs.declared.outline.Outline.{Outline}
-use Rattle.parsing.specs.Record.{fieldA, fieldB, valueB, valueC, zerosOf, sameBytes}
+use Rattle.parsing.specs.Record.{fieldA, fieldB, fieldC, fieldD, valueB, valueC, zerosOf, sameBytes}
 use Rattle.parsing.specs.Walk.{truthOf}
 use Rattle.parsing.specs.Section.{noFields, variableFields, transitionFields, propertyFields, edgeFields, variablesOf, transitionOf, transitionsOf, leastNodes, mostNodes, nodesOf, repeatedOf, edgesOf}
 use Rattle.parsing.proofs.Laws.Section.{items-most, items-single, single-nth}
@@ -98,7 +98,7 @@ module _ (file : List ℕ) (o : Outline) (p : Parses file o) where
       omega arith
 
   -- ---- variables and edges
-  pub variable-fields : (v : ℕ) → v < o .vars → variableFields file v ≡ true
+  variable-fields : (v : ℕ) → v < o .vars → variableFields file v ≡ true
   unfolding variablesOf
   variable-fields v l =
       let n = single-nth file 0x01 (variableFields file) (λ at. Walked.End (at + 1)) (λ i e q. cc) (o .vars) (o .vars) 12 0 (p .variables) v l .0 in
@@ -116,8 +116,33 @@ module _ (file : List ℕ) (o : Outline) (p : Parses file o) where
   unfolding edgesOf
   edge-both e l = single-nth file 0x07 (edgeFields file (o .transitions) (o .nodes)) edge edge-single (o .edges) (length file / 8) 512 (o .edge) (p .edges) e l
 
-  pub edge-fields : (e : ℕ) → e < o .edges → edgeFields file (o .transitions) (o .nodes) (o .edge + e) ≡ true
-  edge-fields e l = edge-both e l .0
+  -- "a transition, b from, c to, d = 0 single, 1 double"
+  edge-named : (e : ℕ) → e < o .edges
+      → (fieldA file (o .edge + e) < o .transitions) × (fieldB file (o .edge + e) < o .nodes) × (fieldC file (o .edge + e) < o .nodes) × (fieldD file (o .edge + e) ≤ 1)
+  unfolding edgeFields
+  edge-named e l =
+      let at = o .edge + e in
+      let a = ltb (fieldA file at) (o .transitions) in
+      let b = ltb (fieldB file at) (o .nodes) in
+      let c = ltb (fieldC file at) (o .nodes) in
+      let d = leb (fieldD file at) 1 in
+      let p = and-eq-true-iff (a && b && c && d) (zerosOf file (8 * at + 7) 1) .0 (edge-both e l .0) in
+      let q = and-eq-true-iff (a && b && c) d .0 (p .0) in
+      let s = and-eq-true-iff (a && b) c .0 (q .0) in
+      let t = and-eq-true-iff a b .0 (s .0) in
+      (ltb-true _ _ (t .0), ltb-true _ _ (t .1), ltb-true _ _ (s .1), leb-true _ _ (q .1))
+
+  pub edge-transition : (e : ℕ) → e < o .edges → fieldA file (o .edge + e) < o .transitions
+  edge-transition e l = edge-named e l .0
+
+  pub edge-from : (e : ℕ) → e < o .edges → fieldB file (o .edge + e) < o .nodes
+  edge-from e l = edge-named e l .1
+
+  pub edge-to : (e : ℕ) → e < o .edges → fieldC file (o .edge + e) < o .nodes
+  edge-to e l = edge-named e l .2
+
+  pub edge-double : (e : ℕ) → e < o .edges → fieldD file (o .edge + e) ≤ 1
+  edge-double e l = edge-named e l .3
 
   pub edge-new : (i j : ℕ) → i < j → j < o .edges → sameBytes file (8 * (o .edge + i) + 1) (8 * (o .edge + j) + 1) 5 ≡ false
   edge-new i j l m =

@@ -12,9 +12,8 @@ use borrow.Author.Tests.{eq-eqb, ne-eqb, eqb-true, eqb-false, ltb-true, ltb-fals
 use lib.Dec.{ltb, leb, eqb}
 use Rattle.parsing.specs.declared.walk.Walked.{Walked}
 use Rattle.parsing.specs.declared.outline.Outline.{Outline}
-use Rattle.parsing.specs.Record.{fieldA, fieldB, fieldC, fieldD, zerosOf}
-use Rattle.parsing.specs.Section.{edgeFields}
-use Rattle.parsing.proofs.Laws.Parsed.{edge-fields}
+use Rattle.parsing.specs.Record.{fieldA, fieldB, fieldC, fieldD}
+use Rattle.parsing.proofs.Laws.Parsed as parsed
 use Rattle.reading.specs.Search.{any, refuseFirst}
 use Rattle.reading.specs.Edge.{single, double, diagram, descending, justOf, conflictOf, chainRuleOf, ruleOf, rulesOf, doubleFrom, doubledOf, doublesOf}
 use Rattle.reading.specs.Readable.{Edge, DoubleTransition}
@@ -71,18 +70,14 @@ any-some test (suc n) at e = go (test at) refl e (any-some test n (at + 1))
 module _ (file : List ℕ) (o : Outline) (r : Stages file o) where
   -- ---- what an edge names
   pub edge-names : (e : ℕ) → e < o .edges → Edge file o e
-  unfolding edgeFields
   edge-names e l =
-      let at = o .edge + e in
-      let a = ltb (fieldA file at) (o .transitions) in
-      let b = ltb (fieldB file at) (o .nodes) in
-      let c = ltb (fieldC file at) (o .nodes) in
-      let d = leb (fieldD file at) 1 in
-      let p = and-eq-true-iff (a && b && c && d) (zerosOf file (8 * at + 7) 1) .0 (edge-fields file o (r .parsed) e l) in
-      let q = and-eq-true-iff (a && b && c) d .0 (p .0) in
-      let s = and-eq-true-iff (a && b) c .0 (q .0) in
-      let t = and-eq-true-iff a b .0 (s .0) in
-      record { transition = ltb-true _ _ (t .0); from = ltb-true _ _ (t .1); to = ltb-true _ _ (s .1); double = leb-true _ _ (q .1) }
+      let p = r .parsed in
+      record {
+        transition = parsed.edge-transition file o p e l;
+        from = parsed.edge-from file o p e l;
+        to = parsed.edge-to file o p e l;
+        double = parsed.edge-double file o p e l;
+      }
 
   -- ---- the rule that it obeys
   edge-obeys : (e : ℕ) → e < o .edges → ruleOf file o (o .edge + e) ≡ true

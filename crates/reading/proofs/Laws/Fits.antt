@@ -9,7 +9,7 @@ use Rattle.parsing.specs.Kind.{truth}
 use Rattle.parsing.proofs.Laws.Walk.{walk-bound}
 use Rattle.parsing.proofs.Laws.Section.{kind-here}
 use Rattle.parsing.proofs.Laws.Outline.{Parses}
-use Rattle.parsing.proofs.Laws.Parsed.{variables-most, variable-range, nodes-most, edges-end}
+use Rattle.parsing.proofs.Laws.Parsed.{variables-most, variable-range, transitions-most, nodes-most, edges-end, edge-transition}
 use Rattle.reading.specs.States.{Ranges}
 use Rattle.reading.specs.Edge.{Fits}
 
@@ -25,7 +25,9 @@ module _ (file : List ℕ) (o : Outline) (p : Parses file o) where
         vars-most = variables-most file o p;
         ranges = ranges;
         transition-here = walk-bound file (o .vars) 16 truth (o .vars + 1) (o .transition) (p .start) .1;
+        transitions-most = transitions-most file o p;
         property-here = omega arith;
-        edges-here = omega arith;
         nodes-most = nodes-most file o p;
+        edges-here = omega arith;
+        edges-named = edge-transition file o p;
       }

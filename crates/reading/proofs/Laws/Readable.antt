@@ -30,7 +30,7 @@ use Rattle.parsing.proofs.Laws.Outline.{Parses}
 use Rattle.parsing.proofs.Laws.Parsed as parsed
 use Rattle.reading.specs.declared.Reading.{Reading}
 use Rattle.reading.specs.States.{productOf}
-use Rattle.reading.specs.Edge.{diagram, justAt, justOf, Fits}
+use Rattle.reading.specs.Edge.{diagram, transitionAt, justOf, Fits}
 use Rattle.reading.specs.Read.{readOf}
 use Rattle.reading.specs.Readable.{Start, Transition, Claimed, Node, Edge, DoubleTransition}
 use Rattle.reading.proofs.Laws.Fits as fitting
@@ -143,5 +143,5 @@ module _ (file : List ℕ) (o : Outline) (r : readOf file ≡ Reading.Readable o
   double-transition = edges.double-transition file o stages
 
   pub just-place : (t place : ℕ) → inSequence (transitionOf file (o .vars)) t (o .transition) ≡ Walked.End place → justOf file o t ≡ true → fieldA file place ≡ 1
-  unfolding justOf justAt
+  unfolding justOf transitionAt
   just-place t place is j = eqb-true _ _ (rw is at j)

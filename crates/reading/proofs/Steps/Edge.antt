@@ -1,17 +1,54 @@
 -- What the edge rules say, by the tests in their order.
 -- Assumes nothing.
-use mathlib.Core.Path.{_≡_, refl}
+use mathlib.Core.Path.{_≡_, refl, subst}
 use mathlib.Core.Bool.{Bool, true, false, not}
 use mathlib.Core.List.{List}
-use Prim.Native.Nat.{ℕ, _-_, _<_, _≤_}
+use Prim.Native.Nat.{ℕ, _+_, _-_, _*_, _/_, _<_, _≤_}
+use native.Mathlib.Omega.{arith}
 use borrow.Author.Tests.{eq-eqb, ne-eqb, lt-ltb, le-ltb}
 use lib.Dec.{eqb}
+use lib.ListN.{length, getD}
 use Rattle.parsing.specs.declared.walk.Walked.{Walked}
 use Rattle.parsing.specs.declared.outline.Outline.{Outline}
 use Rattle.parsing.specs.Record.{fieldA, fieldB, fieldC, fieldD}
+use Rattle.parsing.specs.Walk.{inSequence}
+use Rattle.parsing.specs.Section.{transitionOf}
+use Rattle.parsing.specs.Place.{placeOf, placesOf}
+use Rattle.parsing.proofs.Laws.Section.{transitions-bound}
+use Rattle.parsing.proofs.Laws.Place.{places-nth}
 use Rattle.reading.specs.Search.{any, refuseFirst}
-use Rattle.reading.specs.Edge.{single, diagram, descending, justOf, conflictOf, chainRuleOf, ruleOf, doubledOf, doublesOf}
+use Rattle.reading.specs.Edge.{transitionAt, single, diagram, descending, justOf, conflictOf, chainRuleOf, ruleOf, doubledOf, doublesOf, Fits, EdgeFits}
 
+-- ---- where a transition stands
+module _ (file : List ℕ) (o : Outline) (t : ℕ) where
+  pub transition-within : o .transition ≤ length file / 8 → transitionAt file o t ≤ length file / 8
+  unfolding transitionAt
+  transition-within l = by (inSequence (transitionOf file (o .vars)) t (o .transition)) refl
+    where
+      by : (w : Walked) → inSequence (transitionOf file (o .vars)) t (o .transition) ≡ w → placeOf w ≤ length file / 8
+      by (Walked.End end) is = transitions-bound file (o .vars) t (o .transition) end l is
+      by (Walked.Refused number place) is = omega arith
+
+  pub transition-entry : (places : List ℕ) → places ≡ placesOf (transitionOf file (o .vars)) (o .transitions) (o .transition) → o .transitions ≤ 32 → t < o .transitions
+      → getD places t 0 ≡ transitionAt file o t
+  unfolding transitionAt
+  transition-entry places is l m = rw is (places-nth (transitionOf file (o .vars)) (o .transitions) (o .transition) t (omega arith) m)
+
+-- an edge that is left, with `left` edges from `at` on
+pub edge-fits : (file : List ℕ) (o : Outline) (places : List ℕ) (at left : ℕ) → Fits file o → places ≡ placesOf (transitionOf file (o .vars)) (o .transitions) (o .transition)
+    → at + left ≡ o .edge + o .edges → o .edge ≤ at → 0 < left → EdgeFits file o places at
+edge-fits file o places at left f p e l m =
+    let h = f .edges-here in
+    let z : o .edge + (at - o .edge) ≡ at = omega arith in
+    record {
+      outline = f;
+      found = p;
+      here = omega arith;
+      behind = l;
+      named = subst (λ (i : ℕ). fieldA file i < o .transitions) z (f .edges-named (at - o .edge) (omega arith));
+    }
+
+-- ---- the rules
 module _ (file : List ℕ) (i j b e : ℕ) (p : b ≡ fieldB file i) (q : e ≡ fieldB file j) where
   pub conflict-apart : (b ≡ e → ⊥) → conflictOf file i j ≡ false
   unfolding conflictOf

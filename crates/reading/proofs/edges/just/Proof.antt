@@ -1,52 +1,46 @@
--- `reading::edges::just` meets its contract, by where the transition is found.
+-- `reading::edges::just` meets its contract: the table has the transition's place, which is within the file.
 -- Assumes nothing.
-use mathlib.Core.Path.{sym, _∙_}
+use mathlib.Core.Path.{_≡_, sym, ap, _∙_}
+use Prim.Native.Nat.{ℕ, _+_, _*_, _/_, _≤_}
 use native.Mathlib.Omega.{arith}
-use Rattle.parsing.proofs.Laws.Section.{transitions-bound}
-use Rattle.reading.specs.Edge.{justAt, justOf}
+use lib.Dec.{eqb}
+use lib.ListN.{length, getD}
+use Rattle.reading.specs.Edge.{transitionAt, justOf}
+use Rattle.reading.proofs.Steps.Edge.{transition-within, transition-entry}
 use borrow.Author.Needs.{needs}
 use Rattle.reading.proofs.edges.just.Statement.{statement}
 use Rattle.reading.proofs.edges.just.Tie as tie
 use Rattle.reading.proofs.edges.just.Reads as reads
 use Rattle.reading.proofs.edges.just.Lts as lts
-use Rattle.parsing.proofs.sections.transition_at.Reads as transition-at-reads
 use Rattle.parsing.proofs.records.byte_at.Reads as byte-at-reads
 
-transition-at-requires : tie.Need-transition-at-requires
-transition-at-requires c κs = search needs
+-- what the table says of the transition
+entry : (c : tie.After-shared-slice-known) → getD (c .before .args .t3) (c .before .args .t) 0 ≡ transitionAt (c .before .args .file .now) (c .before .args .outline) (c .before .args .t)
+entry c = transition-entry _ _ _ _ (c .before .pre .1 .0) (c .before .pre .0 .transitions-most) (c .before .pre .1 .1)
 
-enum-known-found : tie.Need-enum-known-found
-enum-known-found c = search needs
+within : (c : tie.After-shared-slice-known) → transitionAt (c .before .args .file .now) (c .before .args .outline) (c .before .args .t) ≤ length (c .before .args .file .now) / 8
+within c = transition-within _ _ _ (c .before .pre .0 .transition-here)
+
+mul-place : tie.Need-mul-place
+mul-place c = search needs
+
+array-read-place : tie.Need-array-read-place
+array-read-place c = search needs
 
 mul-byte-at : tie.Need-mul-byte-at
-mul-byte-at c = omega (arith, transitions-bound _ _ _ _ _ (c .before .before .before .before .before .pre .transition-here) (sym (c .before .before .before .transition-at .ensures) ∙ c .before .found .given .1))
+mul-byte-at c = omega (arith, entry c, within c)
 
 add-byte-at : tie.Need-add-byte-at
-add-byte-at c = omega (arith, transitions-bound _ _ _ _ _ (c .before .before .before .before .before .pre .transition-here) (sym (c .before .before .before .transition-at .ensures) ∙ c .before .found .given .1))
+add-byte-at c = omega (arith, entry c, within c)
 
 byte-at-requires : tie.Need-byte-at-requires
 byte-at-requires c κs = search needs
 
-enum-told : tie.Need-enum-told
-enum-told c = search needs
-
 returns : tie.Need-returns
-unfolding justOf justAt
-returns c = simp (sym (c .before .before .before .before .transition-at .ensures) ∙ c .before .before .found .given .1, sym (c .byte-at .ensures))
-
-returns-2 : tie.Need-returns-2
-unfolding justOf justAt
-returns-2 c = simp (sym (c .before .before .transition-at .ensures) ∙ c .enum-told .given .1)
+unfolding justOf
+returns c = ap (λ (n : ℕ). eqb n 1) (c .byte-at .ensures ∙ ap (λ (n : ℕ). getD (c .before .before .args .file .now) (8 * n + 1) 0) (entry (c .before)))
 
 pub just-spec : {M : Type 1} → statement M
 just-spec =
     tie.close
-    (tie.spec
-    transition-at-requires
-    enum-known-found
-    mul-byte-at
-    add-byte-at
-    byte-at-requires
-    enum-told
-    returns
-    returns-2)
+    (tie.spec mul-place array-read-place mul-byte-at add-byte-at byte-at-requires returns)

@@ -1,31 +1,37 @@
 -- `reading::edges::rules` meets its contract: the edges left decide for all.
 -- Assumes nothing.
-use mathlib.Core.Path.{_≡_, refl, sym, _∙_}
-use Prim.Native.Nat.{_+_, _*_, _≤_}
+use mathlib.Core.Path.{_≡_, refl, sym, subst, _∙_}
+use Prim.Native.Nat.{ℕ, _+_, _-_, _*_, _<_, _≤_}
 use native.Mathlib.Omega.{arith}
 use borrow.Author.Tests.{not-true, not-false}
 use lib.ListN.{length}
+use Rattle.parsing.specs.Record.{fieldA}
 use Rattle.reading.specs.Search.{refuseFirst}
 use Rattle.reading.specs.Edge.{ruleOf, rulesOf}
 use Rattle.reading.proofs.Steps.Search.{refuse-none, refuse-fails, refuse-next}
+use Rattle.reading.proofs.Steps.Edge.{edge-fits}
 use Rattle.reading.proofs.edges.rules.Statement.{statement}
 use Rattle.reading.proofs.edges.rules.Tie as tie
 use Rattle.reading.proofs.edges.rules.Reads as reads
 use Rattle.reading.proofs.edges.rules.Lts as lts
+use Rattle.parsing.proofs.sections.transition_places.Reads as transition-places-reads
 use Rattle.reading.proofs.edges.rule.Reads as rule-reads
 
 abbrev Inv-loop : tie.InvT-loop
-Inv-loop file outline left₀ at₀ left at = (rulesOf file outline ≡ refuseFirst 9 (ruleOf file outline) left at) × ((8 * (at + left) ≤ length file) × (outline .edge ≤ at))
+Inv-loop file outline places left₀ at₀ left at = (rulesOf file outline ≡ refuseFirst 9 (ruleOf file outline) left at) × (at + left ≡ outline .edge + outline .edges) × (outline .edge ≤ at)
 
 abbrev μ-loop : tie.MeasureT-loop
-μ-loop file outline left₀ at₀ left at = left
+μ-loop file outline places left₀ at₀ left at = left
+
+transition-places-requires : tie.Need-transition-places-requires Inv-loop μ-loop
+transition-places-requires c κs = (c .before .pre .vars-most, c .before .pre .transitions-most, c .before .pre .transition-here)
 
 loop-holds : tie.Need-loop-holds Inv-loop μ-loop
 unfolding rulesOf
-loop-holds c = (refl, (c .before .pre .edges-here, omega arith))
+loop-holds c = (refl, refl, omega arith)
 
 rule-requires : tie.Need-rule-requires Inv-loop μ-loop
-rule-requires c κs = (c .before .before .before .pre, omega arith)
+rule-requires c κs = edge-fits _ _ _ _ _ (c .before .before .before .before .pre) (c .before .before .transition-places .ensures) (c .before .loop .inv .1) (c .before .loop .inv .2) (c .loop-test .taken)
 
 returns : tie.Need-returns Inv-loop μ-loop
 returns c = sym (c .before .before .before .loop .inv .0 ∙ refuse-fails _ _ _ _ (c .before .before .loop-test .taken) (sym (c .before .rule .ensures) ∙ not-true _ (c .if1 .taken)))
@@ -40,7 +46,7 @@ loop-less : tie.Need-loop-less Inv-loop μ-loop
 loop-less c = omega arith
 
 loop-again : tie.Need-loop-again Inv-loop μ-loop
-loop-again c = (c .before .before .before .loop .inv .0 ∙ refuse-next _ _ _ _ (c .before .before .loop-test .taken) (sym (c .before .rule .ensures) ∙ not-false _ (c .if1 .left)), omega arith)
+loop-again c = (c .before .before .before .loop .inv .0 ∙ refuse-next _ _ _ _ (c .before .before .loop-test .taken) (sym (c .before .rule .ensures) ∙ not-false _ (c .if1 .left)), omega arith, omega arith)
 
 returns-2 : tie.Need-returns-2 Inv-loop μ-loop
 returns-2 c = sym (c .before .loop .inv .0 ∙ refuse-none _ _ _ _ (c .loop-test .left))
@@ -51,6 +57,7 @@ rules-spec =
     (tie.spec
     Inv-loop
     μ-loop
+    transition-places-requires
     loop-holds
     rule-requires
     returns

@@ -1,0 +1,45 @@
+-- Laws of the table of places.
+--     length-places     it has 32 entries
+--     places-nth        entry i is where part i stands
+--     places-beyond     the entries past the parts are 0
+-- Assumes nothing.
+use mathlib.Core.Path.{_≡_, refl, ap, _∙_}
+use mathlib.Core.Bool.{cond}
+use mathlib.Core.List.{List}
+use Prim.Native.Nat.{ℕ, zero, suc, _+_, _<_, _≤_}
+use native.Mathlib.Omega.{arith}
+use borrow.Author.Tests.{lt-ltb, le-ltb}
+use lib.ListN.{length, getD}
+use lib.Dec.{ltb}
+use Rattle.parsing.specs.declared.walk.Walked.{Walked}
+use Rattle.parsing.specs.Walk.{inSequence}
+use Rattle.parsing.specs.Place.{placeOf, tabulate, placesOf}
+
+length-tabulate : (f : ℕ → ℕ) (n at : ℕ) → length (tabulate f n at) ≡ n
+unfolding tabulate
+length-tabulate f zero at = refl
+length-tabulate f (suc n) at = ap suc (length-tabulate f n (at + 1))
+
+getD-tabulate : (f : ℕ → ℕ) (n at i : ℕ) → i < n → getD (tabulate f n at) i 0 ≡ f (at + i)
+unfolding tabulate
+getD-tabulate f zero at i l = absurd (omega arith)
+getD-tabulate f (suc n) at zero l = ap f (omega arith)
+getD-tabulate f (suc n) at (suc i) l = getD-tabulate f n (at + 1) i (omega arith) ∙ ap f (omega arith)
+
+module _ (part : ℕ → Walked) (n first : ℕ) where
+  abbrev entry : ℕ → ℕ
+  entry i = cond (ltb i n) (placeOf (inSequence part i first)) 0
+
+  pub length-places : length (placesOf part n first) ≡ 32
+  unfolding placesOf
+  length-places = length-tabulate entry 32 0
+
+  getD-places : (i : ℕ) → i < 32 → getD (placesOf part n first) i 0 ≡ entry i
+  unfolding placesOf
+  getD-places i l = getD-tabulate entry 32 0 i l ∙ ap entry (omega arith)
+
+  pub places-nth : (i : ℕ) → i < 32 → i < n → getD (placesOf part n first) i 0 ≡ placeOf (inSequence part i first)
+  places-nth i l m = getD-places i l ∙ rw (lt-ltb _ _ m)
+
+  pub places-beyond : (i : ℕ) → i < 32 → n ≤ i → getD (placesOf part n first) i 0 ≡ 0
+  places-beyond i l m = getD-places i l ∙ rw (le-ltb _ _ m)

@@ -1,4 +1,4 @@
--- Parsed a whole file, section by section: refusals 2 to 6, or where its parts stand.
+-- A whole file, section by section "in file order": the first refusal from 2 to 6, or the outline.
 use Prim.Native.Nat.{ℕ, _+_, _/_, _%_}
 use mathlib.Core.Bool.{cond, _&&_}
 use mathlib.Core.List.{List}
@@ -20,7 +20,7 @@ abbrev pub andSection : Section → (ℕ → ℕ → Parsed) → Parsed
 andSection (Section.Items n end) next = next n end
 andSection (Section.Refused number place) next = Parsed.Refused number place
 
--- the edges, from `edge` on, to the file's end
+-- the edges, from `edge` on, to the file's end: any other record behind them doesn't fit its place
 unfoldable pub edgesParsed : List ℕ → ℕ → ℕ → ℕ → ℕ → ℕ → ℕ → ℕ → Parsed
 edgesParsed file vars transition transitions property node nodes edge =
     andSection (edgesOf file transitions nodes edge) λ edges end.
@@ -28,7 +28,7 @@ edgesParsed file vars transition transitions property node nodes edge =
     (Parsed.Whole (record { vars = vars; transition = transition; transitions = transitions; property = property; node = node; nodes = nodes; edge = edge; edges = edges }))
     (Parsed.Refused 3 end)
 
--- the nodes, from `node` on
+-- the nodes, from `node` on: "too few nodes is 3"
 unfoldable pub nodesParsed : List ℕ → ℕ → ℕ → ℕ → ℕ → ℕ → Parsed
 nodesParsed file vars transition transitions property node =
     andSection (nodesOf file vars (mostNodes file property) node) λ nodes edge.
@@ -36,6 +36,7 @@ nodesParsed file vars transition transitions property node =
     (edgesParsed file vars transition transitions property node nodes edge)
     (Parsed.Refused 3 edge)
 
+-- "exactly one property", with its expressions
 unfoldable pub propertyParsed : List ℕ → ℕ → ℕ → ℕ → ℕ → Parsed
 propertyParsed file vars transition transitions property =
     cond (kindIs file 0x05 property)
@@ -44,16 +45,18 @@ propertyParsed file vars transition transitions property =
     (Parsed.Refused 4 property))
     (Parsed.Refused 3 property)
 
+-- the transitions, from `transition` on
 unfoldable pub transitionsParsed : List ℕ → ℕ → ℕ → Parsed
 transitionsParsed file vars transition = andSection (transitionsOf file vars transition) (propertyParsed file vars transition)
 
--- the start, behind one variable or more
+-- the start, "exactly one", behind one variable or more
 unfoldable pub startParsed : List ℕ → ℕ → ℕ → Parsed
 startParsed file vars at =
     cond (leb 1 vars && kindIs file 0x02 at)
     (cond (noFields file at) (andParse (truthOf file vars (at + 1)) (transitionsParsed file vars)) (Parsed.Refused 4 at))
     (Parsed.Refused 3 at)
 
+-- "The file's length isn't a multiple of 8 or exceeds 32,768" (2)
 unfoldable pub parsedOf : List ℕ → Parsed
 parsedOf file =
     cond (eqb (length file % 8) 0 && leb (length file) 32768)

@@ -12,34 +12,35 @@ use Rattle.parsing.specs.Kind.{number, truth}
 use Rattle.parsing.specs.Walk.{andThen, walkOf, truthOf}
 
 -- ---- the fields of a section's records: "A field has a value not allowed, or names a variable, transition or node that the file lacks" (4)
--- 01 variable: b ≤ c
+-- "01 variable, range b..c, b ≤ c"
 unfoldable pub variableFields : List ℕ → ℕ → Bool
 variableFields file at = zerosOf file (8 * at + 1) 1 && zerosOf file (8 * at + 6) 2 && leZ (valueB file at) (valueC file at)
 
--- 02 start, 06 node: no field
+-- "02 start", "06 node": no field
 abbrev pub noFields : List ℕ → ℕ → Bool
 noFields file at = zerosOf file (8 * at + 1) 7
 
--- 03 transition: a is 0 or 1
+-- "03 transition, a = 1 just, 0 not"
 unfoldable pub transitionFields : List ℕ → ℕ → Bool
 transitionFields file at = leb (fieldA file at) 1 && zerosOf file (8 * at + 2) 6
 
--- 04 assignment: a is a variable
+-- "04 assignment to variable a"
 unfoldable pub assignmentFields : List ℕ → ℕ → ℕ → Bool
 assignmentFields file vars at = ltb (fieldA file at) vars && zerosOf file (8 * at + 2) 6
 
--- 05 property: a is 1 or 3, or a is 2 and b from 1 to 32
+-- "05 property. a = 1 invariance .. a = 2 wait-for, b = 1..32 the count of phases .. a = 3 chain"
 unfoldable pub propertyFields : List ℕ → ℕ → Bool
 propertyFields file at =
     cond (eqb (fieldA file at) 2) (leb 1 (fieldB file at) && leb (fieldB file at) 32 && zerosOf file (8 * at + 4) 4)
     ((eqb (fieldA file at) 1 || eqb (fieldA file at) 3) && zerosOf file (8 * at + 2) 6)
 
--- 07 edge: a is a transition, b and c are nodes, d is 0 or 1
+-- "07 edge: a transition, b from, c to, d = 0 single, 1 double"
 unfoldable pub edgeFields : List ℕ → ℕ → ℕ → ℕ → Bool
 edgeFields file transitions nodes at =
     ltb (fieldA file at) transitions && ltb (fieldB file at) nodes && ltb (fieldC file at) nodes && leb (fieldD file at) 1 && zerosOf file (8 * at + 7) 1
 
--- ---- sections
+-- ---- sections: "A variable, transition, node, edge or nesting level is one past its limit" (5), "A transition assigns a variable again, or an edge
+-- repeats a, b and c" (6)
 -- a section goes on behind an item that ends, or the item's refusal stands
 abbrev pub andItems : Walked → (ℕ → Section) → Section
 andItems (Walked.End end) next = next end
@@ -55,7 +56,7 @@ itemsOf file kind fields item (suc left) n at =
     (cond (fields at) (andItems (item at) (itemsOf file kind fields item left (n + 1))) (Section.Refused 4 at))
     (Section.Items n at)
 
--- 12 variables at most
+-- "1 to 12 of them"
 unfoldable pub variablesOf : List ℕ → Section
 variablesOf file = itemsOf file 0x01 (variableFields file) (λ at. Walked.End (at + 1)) 12 0 0
 
@@ -72,26 +73,25 @@ assignmentsOf file vars (suc left) assigned at =
     (Walked.Refused 4 at))
     (Walked.End at)
 
--- a transition: its guard, then its assignments
+-- "then its guard (truth), then any 04 records"
 unfoldable pub transitionOf : List ℕ → ℕ → ℕ → Walked
 transitionOf file vars at = andThen (walkOf file vars 16 truth (at + 1)) (assignmentsOf file vars 12 (replicate 12 0))
 
--- 32 transitions at most
+-- "0 to 32 transitions"
 unfoldable pub transitionsOf : List ℕ → ℕ → ℕ → Section
 transitionsOf file vars at = itemsOf file 0x03 (transitionFields file) (transitionOf file vars) 32 0 at
 
--- how many expressions follow the property at `at`: q; p, q_0 to q_m; p, q
+-- how many expressions follow the property at `at`: "then q"; "then p, q_0, q_1 and on to q_m, m = b - 1"; "then p, q"
 unfoldable pub expressionsOf : List ℕ → ℕ → ℕ
 expressionsOf file at = cond (eqb (fieldA file at) 1) 1 (cond (eqb (fieldA file at) 2) (fieldB file at + 1) 2)
 
--- the bounds of the number of nodes: for wait-for as many as phases, else 1 to 32
+-- "06 node, then its assertion (truth): 1 to 32; for wait-for exactly b"
 unfoldable pub leastNodes : List ℕ → ℕ → ℕ
 leastNodes file property = cond (eqb (fieldA file property) 2) (fieldB file property) 1
 
 unfoldable pub mostNodes : List ℕ → ℕ → ℕ
 mostNodes file property = cond (eqb (fieldA file property) 2) (fieldB file property) 32
 
--- a node: its assertion
 abbrev pub nodeOf : List ℕ → ℕ → ℕ → Walked
 nodeOf file vars at = truthOf file vars (at + 1)
 
@@ -103,7 +103,7 @@ unfoldable pub repeatedOf : List ℕ → ℕ → ℕ → ℕ → Bool
 repeatedOf file at first zero = false
 repeatedOf file at first (suc n) = sameBytes file (8 * first + 1) (8 * at + 1) 5 || repeatedOf file at (first + 1) n
 
--- 512 edges at most; `first` is the first edge's record
+-- "0 to 512"; `first` is the first edge's record
 unfoldable pub edgesOf : List ℕ → ℕ → ℕ → ℕ → Section
 edgesOf file transitions nodes first =
     itemsOf file 0x07 (edgeFields file transitions nodes)

@@ -31,6 +31,7 @@ pub struct Signature {
     pub over: u8,
 }
 
+// The form of a kind byte, by the ranges of kinds.
 pub fn form_of(kind: u8) -> Form
     ensures { λ r. ⌜ r ≡ formOf kind ⌝ }
 {
@@ -47,7 +48,8 @@ pub fn form_of(kind: u8) -> Form
     }
 }
 
-pub fn row(sort: u8, operands: usize, over: u8) -> Signature
+// A row of the table below.
+fn row(sort: u8, operands: usize, over: u8) -> Signature
     ensures { λ r. ⌜ r ≡ row sort operands over ⌝ }
 {
     Signature {
@@ -57,6 +59,7 @@ pub fn row(sort: u8, operands: usize, over: u8) -> Signature
     }
 }
 
+// The signature of a form.
 pub fn signature_of(form: Form) -> Signature
     ensures { λ r. ⌜ r ≡ signatureOf form ⌝ }
 {
@@ -73,7 +76,7 @@ pub fn signature_of(form: Form) -> Signature
     }
 }
 
-// The shape of the record at `at`.
+// The signature of the record at `at`.
 pub fn signature_at(file: &[u8], at: usize) -> Signature
     requires { ⌜ 8 * at + 8 ≤ length (now file) ⌝ }
     ensures { λ r. ⌜ r ≡ signatureAt (now (file .entry)) at ⌝ }

@@ -31,6 +31,7 @@ pub struct Outline {
     pub edges: usize,
 }
 
+// The outline of a file that parses, or the refusal that meets it, with its number and its place.
 pub enum Parsed {
     Whole(Outline),
     Refused(u8, usize),
@@ -70,6 +71,7 @@ fn parse_edges(
     }
 }
 
+// The nodes, and what follows.
 fn parse_nodes(
     file: &[u8],
     vars: usize,
@@ -103,6 +105,7 @@ fn parse_nodes(
     }
 }
 
+// The property with its expressions, and what follows.
 fn parse_property(
     file: &[u8],
     vars: usize,
@@ -125,6 +128,7 @@ fn parse_property(
     }
 }
 
+// The transitions, and what follows.
 fn parse_transitions(file: &[u8], vars: usize, transition: usize) -> Parsed
     requires { ⌜ vars ≤ 12 ⌝ }
     ensures { λ r. ⌜ r ≡ transitionsParsed (now (file .entry)) vars transition ⌝ }
@@ -136,6 +140,7 @@ fn parse_transitions(file: &[u8], vars: usize, transition: usize) -> Parsed
     }
 }
 
+// The start, behind one variable or more, and what follows.
 fn parse_start(file: &[u8], vars: usize, at: usize) -> Parsed
     requires { ⌜ vars ≤ 12 ⌝ }
     ensures { λ r. ⌜ r ≡ startParsed (now (file .entry)) vars at ⌝ }

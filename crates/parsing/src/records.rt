@@ -39,7 +39,7 @@ pub fn word_at(file: &[u8], i: usize) -> usize
 }
 
 // Whether the n bytes from `from` on are all zero.
-pub fn zeros(file: &[u8], from: usize, n: usize) -> bool
+pub(crate) fn zeros(file: &[u8], from: usize, n: usize) -> bool
     requires { ⌜ from + n ≤ length (now file) ⌝ }
     ensures { λ r. ⌜ r ≡ zerosOf (now (file .entry)) from n ⌝ }
 {
@@ -56,7 +56,7 @@ pub fn zeros(file: &[u8], from: usize, n: usize) -> bool
 }
 
 // Whether the n bytes from i on are those from j on.
-pub fn same_bytes(file: &[u8], i: usize, j: usize, n: usize) -> bool
+pub(crate) fn same_bytes(file: &[u8], i: usize, j: usize, n: usize) -> bool
     requires { ⌜ (i + n ≤ length (now file)) × (j + n ≤ length (now file)) ⌝ }
     ensures { λ r. ⌜ r ≡ sameBytes (now (file .entry)) i j n ⌝ }
 {
@@ -75,7 +75,7 @@ pub fn same_bytes(file: &[u8], i: usize, j: usize, n: usize) -> bool
 }
 
 // Whether there is a record at `at`, of this kind.
-pub fn kind_is(file: &[u8], kind: u8, at: usize) -> bool
+pub(crate) fn kind_is(file: &[u8], kind: u8, at: usize) -> bool
     ensures { λ r. ⌜ r ≡ kindIs (now (file .entry)) kind at ⌝ }
 {
     if at < file.len() / 8 {

@@ -21,7 +21,7 @@ pub enum Section {
 }
 
 // Whether a variable's record has only b and c, and b ≤ c.
-pub fn variable_fields(file: &[u8], at: usize) -> bool
+fn variable_fields(file: &[u8], at: usize) -> bool
     requires { ⌜ 8 * at + 8 ≤ length (now file) ⌝ }
     ensures { λ r. ⌜ r ≡ variableFields (now (file .entry)) at ⌝ }
 {
@@ -35,7 +35,8 @@ pub fn variable_fields(file: &[u8], at: usize) -> bool
     value_at(file, base + 2) <= value_at(file, base + 4)
 }
 
-pub fn transition_fields(file: &[u8], at: usize) -> bool
+// Whether a transition's record has only a, 0 or 1.
+fn transition_fields(file: &[u8], at: usize) -> bool
     requires { ⌜ 8 * at + 8 ≤ length (now file) ⌝ }
     ensures { λ r. ⌜ r ≡ transitionFields (now (file .entry)) at ⌝ }
 {
@@ -46,7 +47,8 @@ pub fn transition_fields(file: &[u8], at: usize) -> bool
     false
 }
 
-pub fn assignment_fields(file: &[u8], vars: usize, at: usize) -> bool
+// Whether an assignment's record has only a, one of the variables.
+fn assignment_fields(file: &[u8], vars: usize, at: usize) -> bool
     requires { ⌜ 8 * at + 8 ≤ length (now file) ⌝ }
     ensures { λ r. ⌜ r ≡ assignmentFields (now (file .entry)) vars at ⌝ }
 {
@@ -57,7 +59,8 @@ pub fn assignment_fields(file: &[u8], vars: usize, at: usize) -> bool
     false
 }
 
-pub fn property_fields(file: &[u8], at: usize) -> bool
+// Whether a property's record names one of the three diagrams, and only a wait-for has b, 1 to 32.
+pub(crate) fn property_fields(file: &[u8], at: usize) -> bool
     requires { ⌜ 8 * at + 8 ≤ length (now file) ⌝ }
     ensures { λ r. ⌜ r ≡ propertyFields (now (file .entry)) at ⌝ }
 {
@@ -82,7 +85,8 @@ pub fn property_fields(file: &[u8], at: usize) -> bool
     false
 }
 
-pub fn edge_fields(file: &[u8], transitions: usize, nodes: usize, at: usize) -> bool
+// Whether an edge's record names a transition and two nodes, and is single or double.
+fn edge_fields(file: &[u8], transitions: usize, nodes: usize, at: usize) -> bool
     requires { ⌜ 8 * at + 8 ≤ length (now file) ⌝ }
     ensures { λ r. ⌜ r ≡ edgeFields (now (file .entry)) transitions nodes at ⌝ }
 {
@@ -103,7 +107,7 @@ pub fn edge_fields(file: &[u8], transitions: usize, nodes: usize, at: usize) -> 
 }
 
 // The variables, from the file's first record on.
-pub fn variables(file: &[u8]) -> Section
+pub(crate) fn variables(file: &[u8]) -> Section
     ensures { λ r. ⌜ r ≡ variablesOf (now (file .entry)) ⌝ }
 {
     let mut left: usize = 12;
@@ -122,7 +126,7 @@ pub fn variables(file: &[u8]) -> Section
 }
 
 // A transition's assignments, from record `at` on.
-pub fn assignments(file: &[u8], vars: usize, at: usize) -> Walked
+fn assignments(file: &[u8], vars: usize, at: usize) -> Walked
     requires { ⌜ vars ≤ 12 ⌝ }
     ensures { λ r. ⌜ r ≡ assignmentsOf (now (file .entry)) vars 12 (replicate 12 0) at ⌝ }
 {
@@ -152,7 +156,7 @@ pub fn assignments(file: &[u8], vars: usize, at: usize) -> Walked
 }
 
 // A transition behind its first record: its guard, then its assignments.
-pub fn transition(file: &[u8], vars: usize, at: usize) -> Walked
+fn transition(file: &[u8], vars: usize, at: usize) -> Walked
     requires { ⌜ (vars ≤ 12) × (at ≤ length (now file)) ⌝ }
     ensures { λ r. ⌜ r ≡ transitionOf (now (file .entry)) vars at ⌝ }
 {
@@ -164,7 +168,7 @@ pub fn transition(file: &[u8], vars: usize, at: usize) -> Walked
 }
 
 // The transitions, from record `from` on.
-pub fn transitions(file: &[u8], vars: usize, from: usize) -> Section
+pub(crate) fn transitions(file: &[u8], vars: usize, from: usize) -> Section
     requires { ⌜ vars ≤ 12 ⌝ }
     ensures { λ r. ⌜ r ≡ transitionsOf (now (file .entry)) vars from ⌝ }
 {
@@ -224,7 +228,8 @@ pub fn expressions(file: &[u8], at: usize) -> usize
     2
 }
 
-pub fn least_nodes(file: &[u8], property: usize) -> usize
+// The fewest nodes that the property allows.
+pub(crate) fn least_nodes(file: &[u8], property: usize) -> usize
     requires { ⌜ 8 * property + 8 ≤ length (now file) ⌝ }
     ensures { λ r. ⌜ r ≡ leastNodes (now (file .entry)) property ⌝ }
 {
@@ -234,7 +239,8 @@ pub fn least_nodes(file: &[u8], property: usize) -> usize
     1
 }
 
-pub fn most_nodes(file: &[u8], property: usize) -> usize
+// The most nodes that the property allows.
+pub(crate) fn most_nodes(file: &[u8], property: usize) -> usize
     requires { ⌜ 8 * property + 8 ≤ length (now file) ⌝ }
     ensures { λ r. ⌜ (r ≡ mostNodes (now (file .entry)) property) × (r < 65536) ⌝ }
 {
@@ -245,7 +251,7 @@ pub fn most_nodes(file: &[u8], property: usize) -> usize
 }
 
 // The nodes, at most `most` of them, from record `from` on.
-pub fn nodes(file: &[u8], vars: usize, most: usize, from: usize) -> Section
+pub(crate) fn nodes(file: &[u8], vars: usize, most: usize, from: usize) -> Section
     requires { ⌜ most < 65536 ⌝ }
     ensures { λ r. ⌜ r ≡ nodesOf (now (file .entry)) vars most from ⌝ }
 {
@@ -291,7 +297,7 @@ pub fn node_places(file: &[u8], vars: usize, n: usize, first: usize) -> [usize; 
 }
 
 // Whether one of the n edges from `first` on has the a, b and c of the edge at `at`.
-pub fn repeated(file: &[u8], at: usize, first: usize, n: usize) -> bool
+fn repeated(file: &[u8], at: usize, first: usize, n: usize) -> bool
     requires { ⌜ (8 * at + 8 ≤ length (now file)) × (first + n ≤ at) ⌝ }
     ensures { λ r. ⌜ r ≡ repeatedOf (now (file .entry)) at first n ⌝ }
 {
@@ -308,7 +314,7 @@ pub fn repeated(file: &[u8], at: usize, first: usize, n: usize) -> bool
 }
 
 // The edges, from record `first` on.
-pub fn edges(file: &[u8], transitions: usize, nodes: usize, first: usize) -> Section
+pub(crate) fn edges(file: &[u8], transitions: usize, nodes: usize, first: usize) -> Section
     ensures { λ r. ⌜ r ≡ edgesOf (now (file .entry)) transitions nodes first ⌝ }
 {
     let mut left: usize = 512;

@@ -14,7 +14,7 @@ pub enum Walked {
 }
 
 // Whether an expression's record at `at` has only the field that its kind names: a constant b, a variable a.
-pub fn expression_fields(file: &[u8], at: usize, vars: usize) -> bool
+fn expression_fields(file: &[u8], at: usize, vars: usize) -> bool
     requires { ⌜ 8 * at + 8 ≤ length (now file) ⌝ }
     ensures { λ r. ⌜ r ≡ expressionFields (now (file .entry)) vars at ⌝ }
 {
@@ -36,7 +36,7 @@ pub fn expression_fields(file: &[u8], at: usize, vars: usize) -> bool
 }
 
 // Walks the expression of sort `want` at record `at`, with `levels` nesting levels left.
-pub fn walk(file: &[u8], at: usize, want: u8, vars: usize, levels: usize) -> Walked
+pub(crate) fn walk(file: &[u8], at: usize, want: u8, vars: usize, levels: usize) -> Walked
     ensures { λ r. ⌜ r ≡ walkOf (now (file .entry)) vars levels want at ⌝ }
 {
     if file.len() / 8 <= at {

@@ -1,5 +1,4 @@
--- The edge rules (document 01, "Edge rules"): refusal 9 at the first edge that breaks one, given the edges before it, and refusal 10 at the
--- lowest chain node that lacks its double edge.
+-- The edge rules, and the refusals 9 and 10 that enforce them.
 use mathlib.Core.Path.{_≡_}
 use Prim.Native.Nat.{ℕ, _+_, _-_, _*_, _/_, _<_, _≤_}
 use mathlib.Core.Bool.{Bool, cond, not, _&&_, _||_}
@@ -57,6 +56,7 @@ ruleOf file o at =
     cond (eqb (diagram file o) 1) (single file at)
     (descending file at && cond (eqb (diagram file o) 2) (single file at) (chainRuleOf file o at))
 
+-- "An edge breaks an edge rule, given the edges before it" (9)
 unfoldable pub rulesOf : List ℕ → Outline → Walked
 rulesOf file o = refuseFirst 9 (ruleOf file o) (o .edges) (o .edge)
 
@@ -67,6 +67,7 @@ doubleFrom file node at = double file at && eqb (fieldB file at) node
 unfoldable pub doubledOf : List ℕ → Outline → ℕ → Bool
 doubledOf file o node = any (doubleFrom file node) (o .edges) (o .edge)
 
+-- "A chain node lacks its double edge (place: lowest such node)" (10)
 unfoldable pub doublesOf : List ℕ → Outline → Walked
 doublesOf file o = cond (eqb (diagram file o) 3) (refuseFirst 10 (doubledOf file o) (o .nodes - 1) 1) (Walked.End 0)
 

@@ -110,7 +110,7 @@ fn rule(file: &[u8], outline: Outline, places: [usize; 32], at: usize) -> bool
 }
 
 // Refusal 9 at the first edge that breaks a rule.
-pub fn rules(file: &[u8], outline: Outline) -> Walked
+pub(crate) fn rules(file: &[u8], outline: Outline) -> Walked
     requires { ⌜ Fits (now file) outline ⌝ }
     ensures { λ r. ⌜ r ≡ rulesOf (now (file .entry)) outline ⌝ }
 {
@@ -156,7 +156,7 @@ fn doubled(file: &[u8], outline: Outline, node: usize) -> bool
 }
 
 // Refusal 10 at the lowest node of a chain, from 1 up, without a double edge.
-pub fn doubles(file: &[u8], outline: Outline) -> Walked
+pub(crate) fn doubles(file: &[u8], outline: Outline) -> Walked
     requires { ⌜ Fits (now file) outline ⌝ }
     ensures { λ r. ⌜ r ≡ doublesOf (now (file .entry)) outline ⌝ }
 {

@@ -80,7 +80,7 @@ fn own(i: Interval, end: usize, at: usize) -> Analysis
 }
 
 // Analyses the expression at record `at`: operands first, left before right.
-pub fn analyse(file: &[u8], levels: usize, at: usize) -> Analysis
+fn analyse(file: &[u8], levels: usize, at: usize) -> Analysis
     ensures { λ r. ⌜ r ≡ analysisOf (now (file .entry)) levels at ⌝ }
 {
     if levels == 0 {
@@ -112,7 +112,7 @@ pub fn analyse(file: &[u8], levels: usize, at: usize) -> Analysis
 }
 
 // Analyses every expression of the file, in file order: refusal 8 at the first record whose own interval goes out of bounds.
-pub fn intervals(file: &[u8]) -> Walked
+pub(crate) fn intervals(file: &[u8]) -> Walked
     ensures { λ r. ⌜ r ≡ intervalsOf (now (file .entry)) ⌝ }
 {
     let records = file.len() / 8;

@@ -17,6 +17,7 @@ pub enum Reading {
     Refused(u8, usize),
 }
 
+// The double edges of a chain (10), then the outline.
 fn read_doubles(file: &[u8], outline: Outline) -> Reading
     requires { ⌜ Fits (now file) outline ⌝ }
     ensures { λ r. ⌜ r ≡ doublesRead (now (file .entry)) outline ⌝ }
@@ -28,6 +29,7 @@ fn read_doubles(file: &[u8], outline: Outline) -> Reading
     }
 }
 
+// The edge rules (9), and what follows.
 fn read_rules(file: &[u8], outline: Outline) -> Reading
     requires { ⌜ Fits (now file) outline ⌝ }
     ensures { λ r. ⌜ r ≡ rulesRead (now (file .entry)) outline ⌝ }
@@ -39,6 +41,7 @@ fn read_rules(file: &[u8], outline: Outline) -> Reading
     }
 }
 
+// The intervals (8), and what follows.
 fn read_intervals(file: &[u8], outline: Outline) -> Reading
     requires { ⌜ Fits (now file) outline ⌝ }
     ensures { λ r. ⌜ r ≡ intervalsRead (now (file .entry)) outline ⌝ }
@@ -50,6 +53,7 @@ fn read_intervals(file: &[u8], outline: Outline) -> Reading
     }
 }
 
+// The number of states (7), and what follows.
 fn read_states(file: &[u8], outline: Outline) -> Reading
     requires { ⌜ Fits (now file) outline ⌝ }
     ensures { λ r. ⌜ r ≡ statesRead (now (file .entry)) outline ⌝ }

@@ -4,4 +4,5 @@ pub mod Span
 pub mod Section
 pub mod Place
 pub mod Outline
+pub mod Refusal
 pub mod Parsed

@@ -5,3 +5,4 @@ pub mod Walk
 pub mod Section
 pub mod Place
 pub mod Outline
+pub mod Refusal

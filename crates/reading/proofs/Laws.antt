@@ -6,4 +6,5 @@ pub mod Stage
 pub mod States
 pub mod Scan
 pub mod Edge
+pub mod Refusal
 pub mod Readable

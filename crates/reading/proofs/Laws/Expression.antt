@@ -69,7 +69,7 @@ module _ (file : List ℕ) (vars levels at end : ℕ) where
         here = w .here;
         sort = w .fit;
         fields = w .right;
-        operands = operands-of (analysis-opens i end file levels at (x .bounds) .1) (signatureAt file at .operands) refl (w .operands);
+        operands = operands-of (analysis-opens i end file levels at (x .bounds) .2) (signatureAt file at .operands) refl (w .operands);
       }
 
 module _ (file : List ℕ) (vars want at end : ℕ) {i : Interval} where

@@ -3,7 +3,7 @@
 --     analysis-bounded   it lies in -1,000,000..1,000,000
 --     analysis-span      the end that is answered is where the expression ends
 --     analysis-walk      so it is where the walk ends
---     analysis-ahead     it lies behind the first record
+--     analysis-ahead, analysis-within     it lies behind the first record and within the file
 -- Assumes nothing.
 use mathlib.Core.Path.{_≡_, refl, ap, subst, _∙_}
 use mathlib.Core.Bool.{Bool, true, false, cond}
@@ -13,6 +13,7 @@ use native.Mathlib.Nat.{add-zero}
 use native.Mathlib.Omega.{arith}
 use lib.ListN.{length, getD, drop}
 use lib.Seq.{getD-drop, drop-drop}
+use borrow.Author.Tests.{ltb-true}
 use lib.Dec.{ltb}
 use Rattle.integers.specs.declared.Interval.{Interval}
 use Rattle.integers.specs.Interval.{inBounds, Bounded}
@@ -87,13 +88,14 @@ module _ (j : Interval) (e : ℕ) where
     by-opens (suc (suc zero)) n l q = two-opens n (analysisOf file levels (at + 1)) refl q
     by-opens (suc (suc (suc m))) n l q = absurd (omega arith)
 
-    pub analysis-opens : analysisOf file (suc levels) at ≡ Within j e → Bounded j × Judged file levels at e j
+    pub analysis-opens : analysisOf file (suc levels) at ≡ Within j e → (at < length file / 8) × Bounded j × Judged file levels at e j
     unfolding analysisOf
-    analysis-opens q = go (ltb at (length file / 8)) q
+    analysis-opens q = go (ltb at (length file / 8)) refl q
       where
-        go : (b : Bool) → cond b (byOperands file at (analysisOf file levels) (signatureAt file at .operands)) (Out at) ≡ Within j e → Bounded j × Judged file levels at e j
-        go true w = by-opens (signatureAt file at .operands) refl (operands-most (formAt file at)) w
-        go false w = let z : _≡_ {A = ℕ} 0 1 = cc in absurd (omega arith)
+        go : (b : Bool) → ltb at (length file / 8) ≡ b → cond b (byOperands file at (analysisOf file levels) (signatureAt file at .operands)) (Out at) ≡ Within j e
+            → (at < length file / 8) × Bounded j × Judged file levels at e j
+        go true l w = let o = by-opens (signatureAt file at .operands) refl (operands-most (formAt file at)) w in (ltb-true _ _ l, o .0, o .1)
+        go false l w = let z : _≡_ {A = ℕ} 0 1 = cc in absurd (omega arith)
 
   pub analysis-deepest : (file : List ℕ) (at : ℕ) → analysisOf file zero at ≡ Within j e → ⊥
   unfolding analysisOf
@@ -101,7 +103,7 @@ module _ (j : Interval) (e : ℕ) where
 
   pub analysis-bounded : (file : List ℕ) (levels at : ℕ) → analysisOf file levels at ≡ Within j e → Bounded j
   analysis-bounded file zero at q = absurd (analysis-deepest file at q)
-  analysis-bounded file (suc levels) at q = analysis-opens file levels at q .0
+  analysis-bounded file (suc levels) at q = analysis-opens file levels at q .1
 
 -- ---- where an expression ends
 module _ (file : List ℕ) (levels at end : ℕ)
@@ -125,7 +127,7 @@ unfolding span
 analysis-span file zero at end i q = absurd (analysis-deepest i end file at q)
 analysis-span file (suc levels) at end i q =
     let z : getD (drop (8 * at) file) 0 0 ≡ getD file (8 * at) 0 = getD-drop (8 * at) file 0 0 ∙ rw add-zero in
-    rw z (judged-span file levels at end (analysis-span file levels) (analysis-opens i end file levels at q .1))
+    rw z (judged-span file levels at end (analysis-span file levels) (analysis-opens i end file levels at q .2))
 
 pub analysis-walk : (file : List ℕ) (vars levels want at end : ℕ) (j : Interval) (e : ℕ)
     → walkOf file vars levels want at ≡ Walked.End end → analysisOf file levels at ≡ Within j e → e ≡ end
@@ -133,6 +135,16 @@ analysis-walk file vars levels want at end j e w q =
     let a = walk-span file vars levels want at end w in
     let b = analysis-span file levels at e j q in
     omega arith
+
+module _ (file : List ℕ) where
+  pub analysis-within : (levels at end : ℕ) (i : Interval) → analysisOf file levels at ≡ Within i end → end ≤ length file / 8
+  analysis-within zero at end i q = absurd (analysis-deepest i end file at q)
+  analysis-within (suc levels) at end i q = let o = analysis-opens i end file levels at q in go (o .0) (analysis-within levels) (o .2)
+    where
+      go : at < length file / 8 → ((x y : ℕ) (j : Interval) → analysisOf file levels x ≡ Within j y → y ≤ length file / 8) → {j : Interval} → Judged file levels at end j → end ≤ length file / 8
+      go l ih (none n e) = omega arith
+      go l ih (one {j} n q) = ih (at + 1) end j q
+      go l ih (two {mid} {j} {k} n p q) = ih mid end k q
 
 spans-least : (count : List ℕ → ℕ) (part : List ℕ) (n k : ℕ) → k ≤ spans count n k part
 unfolding spans

@@ -93,9 +93,9 @@ module _ (file : List ℕ) (vars : ℕ) where
   record-refuses want at rest l h =
       by-test Walked.Refused records (ltb at records && eqb (signatureAt file at .sort) want) (cond (expressionFields file vars at) rest (Walked.Refused 4 at)) (Walked.Refused 3 at)
       (λ t.
-        by-test Walked.Refused records (expressionFields file vars at) rest (Walked.Refused 4 at)
-        (λ f. h (ltb-true at records (and-eq-true-iff (ltb at records) (eqb (signatureAt file at .sort) want) .0 t .0)))
-        (λ f. walked-refused records 4 at (omega arith) (omega arith) l))
+      by-test Walked.Refused records (expressionFields file vars at) rest (Walked.Refused 4 at)
+      (λ f. h (ltb-true at records (and-eq-true-iff (ltb at records) (eqb (signatureAt file at .sort) want) .0 t .0)))
+      (λ f. walked-refused records 4 at (omega arith) (omega arith) l))
       (λ t. walked-refused records 3 at (omega arith) (omega arith) l)
 
   walk-refuses : (levels want at : ℕ) → at ≤ records → Refuses Walked.Refused records (walkOf file vars levels want at)
@@ -114,17 +114,17 @@ module _ (file : List ℕ) (vars : ℕ) where
     section-refuses zero n at l =
         by-test Section.Refused records (kindIs file kind at) (cond (fields at) (Section.Refused 5 at) (Section.Refused 4 at)) (Section.Items n at)
         (λ k.
-          by-test Section.Refused records (fields at) (Section.Refused 5 at) (Section.Refused 4 at)
-          (λ f. section-refused records 5 at (omega arith) (omega arith) l)
-          (λ f. section-refused records 4 at (omega arith) (omega arith) l))
+        by-test Section.Refused records (fields at) (Section.Refused 5 at) (Section.Refused 4 at)
+        (λ f. section-refused records 5 at (omega arith) (omega arith) l)
+        (λ f. section-refused records 4 at (omega arith) (omega arith) l))
         (λ k. section-ends records n at)
     section-refuses (suc left) n at l =
         let next = itemsOf file kind fields item left (n + 1) in
         by-test Section.Refused records (kindIs file kind at) (cond (fields at) (andItems (item at) next) (Section.Refused 4 at)) (Section.Items n at)
         (λ k.
-          by-test Section.Refused records (fields at) (andItems (item at) next) (Section.Refused 4 at)
-          (λ f. items-refuses records (item at) (h at (kind-here file kind at k)) next (λ x e. section-refuses left (n + 1) x (b at x e (kind-here file kind at k))))
-          (λ f. section-refused records 4 at (omega arith) (omega arith) l))
+        by-test Section.Refused records (fields at) (andItems (item at) next) (Section.Refused 4 at)
+        (λ f. items-refuses records (item at) (h at (kind-here file kind at k)) next (λ x e. section-refuses left (n + 1) x (b at x e (kind-here file kind at k))))
+        (λ f. section-refused records 4 at (omega arith) (omega arith) l))
         (λ k. section-ends records n at)
 
     -- a section that is counted ends within the file
@@ -137,9 +137,9 @@ module _ (file : List ℕ) (vars : ℕ) where
   assignments-refuses zero marks at l =
       by-test Walked.Refused records (kindIs file 0x04 at) (cond (assignmentFields file vars at) (Walked.Refused 6 at) (Walked.Refused 4 at)) (Walked.End at)
       (λ k.
-        by-test Walked.Refused records (assignmentFields file vars at) (Walked.Refused 6 at) (Walked.Refused 4 at)
-        (λ f. walked-refused records 6 at (omega arith) (omega arith) l)
-        (λ f. walked-refused records 4 at (omega arith) (omega arith) l))
+      by-test Walked.Refused records (assignmentFields file vars at) (Walked.Refused 6 at) (Walked.Refused 4 at)
+      (λ f. walked-refused records 6 at (omega arith) (omega arith) l)
+      (λ f. walked-refused records 4 at (omega arith) (omega arith) l))
       (λ k. walked-ends records at)
   assignments-refuses (suc left) marks at l =
       let next = assignmentsOf file vars left (set marks (fieldA file at) 1) in
@@ -147,14 +147,14 @@ module _ (file : List ℕ) (vars : ℕ) where
       let free = eqb (getD marks (fieldA file at) 0) 0 in
       by-test Walked.Refused records (kindIs file 0x04 at) (cond (assignmentFields file vars at) (cond free (andThen value next) (Walked.Refused 6 at)) (Walked.Refused 4 at)) (Walked.End at)
       (λ k.
-        by-test Walked.Refused records (assignmentFields file vars at) (cond free (andThen value next) (Walked.Refused 6 at)) (Walked.Refused 4 at)
-        (λ f.
-          by-test Walked.Refused records free (andThen value next) (Walked.Refused 6 at)
-          (λ d.
-            then-refuses records value (walk-refuses 16 number (at + 1) (let z = kind-here file 0x04 at k in omega arith)) next
-            (λ x e. assignments-refuses left (set marks (fieldA file at) 1) x (walk-bound file vars 16 number (at + 1) x e .1)))
-          (λ d. walked-refused records 6 at (omega arith) (omega arith) l))
-        (λ f. walked-refused records 4 at (omega arith) (omega arith) l))
+      by-test Walked.Refused records (assignmentFields file vars at) (cond free (andThen value next) (Walked.Refused 6 at)) (Walked.Refused 4 at)
+      (λ f.
+      by-test Walked.Refused records free (andThen value next) (Walked.Refused 6 at)
+      (λ d.
+      then-refuses records value (walk-refuses 16 number (at + 1) (let z = kind-here file 0x04 at k in omega arith)) next
+      (λ x e. assignments-refuses left (set marks (fieldA file at) 1) x (walk-bound file vars 16 number (at + 1) x e .1)))
+      (λ d. walked-refused records 6 at (omega arith) (omega arith) l))
+      (λ f. walked-refused records 4 at (omega arith) (omega arith) l))
       (λ k. walked-ends records at)
 
   transition-refuses : (at : ℕ) → at < records → Refuses Walked.Refused records (transitionOf file vars at)
@@ -196,11 +196,11 @@ module _ (file : List ℕ) where
       (section-refuses file vars 0x07 (edgeFields file transitions nodes) (edge at) (edge-refuses at) (edge-within at) 512 0 at l)
       (λ edges end. cond (eqb end count) (Parsed.Whole (record { vars = vars; transition = transition; transitions = transitions; property = property; node = node; nodes = nodes; edge = at; edges = edges })) (Parsed.Refused 3 end))
       (λ n x e.
-        by-test Parsed.Refused count (eqb x count) (Parsed.Whole (record { vars = vars; transition = transition; transitions = transitions; property = property; node = node; nodes = nodes; edge = at; edges = n })) (Parsed.Refused 3 x)
-        (λ t number place q. let z : _≡_ {A = ℕ} 0 1 = cc in absurd (omega arith))
-        (λ t.
-          parsed-refused count 3 x (omega arith) (omega arith)
-          (section-within file vars 0x07 (edgeFields file transitions nodes) (edge at) (edge-refuses at) (edge-within at) 512 0 at n x l e)))
+      by-test Parsed.Refused count (eqb x count) (Parsed.Whole (record { vars = vars; transition = transition; transitions = transitions; property = property; node = node; nodes = nodes; edge = at; edges = n })) (Parsed.Refused 3 x)
+      (λ t number place q. let z : _≡_ {A = ℕ} 0 1 = cc in absurd (omega arith))
+      (λ t.
+      parsed-refused count 3 x (omega arith) (omega arith)
+      (section-within file vars 0x07 (edgeFields file transitions nodes) (edge at) (edge-refuses at) (edge-within at) 512 0 at n x l e)))
 
   nodes-refuses : (vars transition transitions property at : ℕ) → at ≤ count → Right (nodesParsed file vars transition transitions property at)
   unfolding nodesParsed nodesOf
@@ -210,10 +210,10 @@ module _ (file : List ℕ) where
       section-then count (nodesOf file vars most at) (section-refuses file vars 0x06 (noFields file) (nodeOf file vars) (node-refuses file vars) ends most 0 at l)
       (λ nodes edge. cond (leb (leastNodes file property) nodes) (edgesParsed file vars transition transitions property at nodes edge) (Parsed.Refused 3 edge))
       (λ n x e.
-        let m = section-within file vars 0x06 (noFields file) (nodeOf file vars) (node-refuses file vars) ends most 0 at n x l e in
-        by-test Parsed.Refused count (leb (leastNodes file property) n) (edgesParsed file vars transition transitions property at n x) (Parsed.Refused 3 x)
-        (λ t. edges-refuses vars transition transitions property at n x m)
-        (λ t. parsed-refused count 3 x (omega arith) (omega arith) m))
+      let m = section-within file vars 0x06 (noFields file) (nodeOf file vars) (node-refuses file vars) ends most 0 at n x l e in
+      by-test Parsed.Refused count (leb (leastNodes file property) n) (edgesParsed file vars transition transitions property at n x) (Parsed.Refused 3 x)
+      (λ t. edges-refuses vars transition transitions property at n x m)
+      (λ t. parsed-refused count 3 x (omega arith) (omega arith) m))
 
   property-refuses : (vars transition transitions at : ℕ) → at ≤ count → Right (propertyParsed file vars transition transitions at)
   unfolding propertyParsed
@@ -222,16 +222,16 @@ module _ (file : List ℕ) where
       let rest = andParse claims (nodesParsed file vars transition transitions at) in
       by-test Parsed.Refused count (kindIs file 0x05 at) (cond (propertyFields file at) rest (Parsed.Refused 4 at)) (Parsed.Refused 3 at)
       (λ k.
-        by-test Parsed.Refused count (propertyFields file at) rest (Parsed.Refused 4 at)
-        (λ f.
-          let m : at + 1 ≤ count = let z = kind-here file 0x05 at k in omega arith in
-          let ends : (i e : ℕ) → truthOf file vars i ≡ Walked.End e → e ≤ count = λ i e q. walk-bound file vars 16 truth i e q .1 in
-          parse-then count claims (sequence-refuses count (truthOf file vars) (walk-refuses file vars 16 truth) ends (expressionsOf file at) (at + 1) m)
-          (nodesParsed file vars transition transitions at)
-          (λ x e.
-            nodes-refuses vars transition transitions at x
-            (sequence-through (truthOf file vars) (λ i. i ≤ count) (λ i y q p. ends i y q) x (expressionsOf file at) (at + 1) e m)))
-        (λ f. parsed-refused count 4 at (omega arith) (omega arith) l))
+      by-test Parsed.Refused count (propertyFields file at) rest (Parsed.Refused 4 at)
+      (λ f.
+      let m : at + 1 ≤ count = let z = kind-here file 0x05 at k in omega arith in
+      let ends : (i e : ℕ) → truthOf file vars i ≡ Walked.End e → e ≤ count = λ i e q. walk-bound file vars 16 truth i e q .1 in
+      parse-then count claims (sequence-refuses count (truthOf file vars) (walk-refuses file vars 16 truth) ends (expressionsOf file at) (at + 1) m)
+      (nodesParsed file vars transition transitions at)
+      (λ x e.
+      nodes-refuses vars transition transitions at x
+      (sequence-through (truthOf file vars) (λ i. i ≤ count) (λ i y q p. ends i y q) x (expressionsOf file at) (at + 1) e m)))
+      (λ f. parsed-refused count 4 at (omega arith) (omega arith) l))
       (λ k. parsed-refused count 3 at (omega arith) (omega arith) l)
 
   transitions-refuses : (vars at : ℕ) → at ≤ count → Right (transitionsParsed file vars at)
@@ -249,12 +249,12 @@ module _ (file : List ℕ) where
       let rest = andParse (truthOf file vars (at + 1)) (transitionsParsed file vars) in
       by-test Parsed.Refused count (leb 1 vars && kindIs file 0x02 at) (cond (noFields file at) rest (Parsed.Refused 4 at)) (Parsed.Refused 3 at)
       (λ k.
-        by-test Parsed.Refused count (noFields file at) rest (Parsed.Refused 4 at)
-        (λ f.
-          let m : at + 1 ≤ count = let z = kind-here file 0x02 at (and-eq-true-iff (leb 1 vars) (kindIs file 0x02 at) .0 k .1) in omega arith in
-          parse-then count (truthOf file vars (at + 1)) (walk-refuses file vars 16 truth (at + 1) m) (transitionsParsed file vars)
-          (λ x e. transitions-refuses vars x (walk-bound file vars 16 truth (at + 1) x e .1)))
-        (λ f. parsed-refused count 4 at (omega arith) (omega arith) l))
+      by-test Parsed.Refused count (noFields file at) rest (Parsed.Refused 4 at)
+      (λ f.
+      let m : at + 1 ≤ count = let z = kind-here file 0x02 at (and-eq-true-iff (leb 1 vars) (kindIs file 0x02 at) .0 k .1) in omega arith in
+      parse-then count (truthOf file vars (at + 1)) (walk-refuses file vars 16 truth (at + 1) m) (transitionsParsed file vars)
+      (λ x e. transitions-refuses vars x (walk-bound file vars 16 truth (at + 1) x e .1)))
+      (λ f. parsed-refused count 4 at (omega arith) (omega arith) l))
       (λ k. parsed-refused count 3 at (omega arith) (omega arith) l)
 
   pub parse-refuses : Refuses Parsed.Refused 4096 (parsedOf file)
@@ -265,8 +265,8 @@ module _ (file : List ℕ) where
       let ends : (i e : ℕ) → variable i ≡ Walked.End e → i < count → e ≤ count = λ i e q l. let z : i + 1 ≡ e = cc in omega arith in
       by-test Parsed.Refused 4096 (eqb (length file % 8) 0 && leb (length file) 32768) (andSection (variablesOf file) (startParsed file)) (Parsed.Refused 2 0)
       (λ t.
-        let small : length file ≤ 32768 = leb-true _ _ (and-eq-true-iff (eqb (length file % 8) 0) (leb (length file) 32768) .0 t .1) in
-        refuses-more Parsed.Refused count 4096 (andSection (variablesOf file) (startParsed file)) (omega arith)
-        (section-then count (variablesOf file) (section-refuses file 0 0x01 (variableFields file) variable right ends 12 0 0 (omega arith)) (startParsed file)
-        (λ n x e. start-refuses n x (section-within file 0 0x01 (variableFields file) variable right ends 12 0 0 n x (omega arith) e))))
+      let small : length file ≤ 32768 = leb-true _ _ (and-eq-true-iff (eqb (length file % 8) 0) (leb (length file) 32768) .0 t .1) in
+      refuses-more Parsed.Refused count 4096 (andSection (variablesOf file) (startParsed file)) (omega arith)
+      (section-then count (variablesOf file) (section-refuses file 0 0x01 (variableFields file) variable right ends 12 0 0 (omega arith)) (startParsed file)
+      (λ n x e. start-refuses n x (section-within file 0 0x01 (variableFields file) variable right ends 12 0 0 n x (omega arith) e))))
       (λ t. parsed-refused 4096 2 0 (omega arith) (omega arith) (omega arith))

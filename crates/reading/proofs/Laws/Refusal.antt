@@ -79,8 +79,8 @@ module _ (file : List ℕ) where
       and-outside (analysisOf file levels (at + 1)) (h (at + 1) (omega arith))
       (λ i next. andInterval (analysisOf file levels next) λ k end. ownOf (joinOf (kindAt file at) (formAt file at) i k) end at)
       (λ i next e.
-        and-outside (analysisOf file levels next) (h next (analysis-within file levels (at + 1) next i e)) (λ k end. ownOf (joinOf (kindAt file at) (formAt file at) i k) end at)
-        (λ k end f. own-outside (joinOf (kindAt file at) (formAt file at) i k) end at (omega arith)))
+      and-outside (analysisOf file levels next) (h next (analysis-within file levels (at + 1) next i e)) (λ k end. ownOf (joinOf (kindAt file at) (formAt file at) i k) end at)
+      (λ k end f. own-outside (joinOf (kindAt file at) (formAt file at) i k) end at (omega arith)))
 
   analysis-outside : (levels at : ℕ) → at ≤ count → Outside (analysisOf file levels at)
   unfolding analysisOf
@@ -107,9 +107,9 @@ module _ (file : List ℕ) where
       let expression = andExpression (analysisOf file 16 at) (analysedFrom file left) in
       by-test Walked.Refused count (ltb at count) (cond (eqb (signatureAt file at .sort) none) (analysedFrom file left (at + 1)) expression) (Walked.End at)
       (λ h.
-        by-test Walked.Refused count (eqb (signatureAt file at .sort) none) (analysedFrom file left (at + 1)) expression
-        (λ s. scan-refuses left (at + 1) (let z = ltb-true at count h in omega arith))
-        (λ s. expression-refuses (analysisOf file 16 at) (analysis-outside 16 at l) (analysedFrom file left) (λ i end e. scan-refuses left end (analysis-within file 16 at end i e))))
+      by-test Walked.Refused count (eqb (signatureAt file at .sort) none) (analysedFrom file left (at + 1)) expression
+      (λ s. scan-refuses left (at + 1) (let z = ltb-true at count h in omega arith))
+      (λ s. expression-refuses (analysisOf file 16 at) (analysis-outside 16 at l) (analysedFrom file left) (λ i end e. scan-refuses left end (analysis-within file 16 at end i e))))
       (λ h. walked-ends count at)
 
 -- ---- the stages

@@ -1,6 +1,7 @@
 -- Laws of the definitions, for the proofs here and in the crates above.
 pub mod Walk
 pub mod Span
+pub mod Search
 pub mod Section
 pub mod Place
 pub mod Outline

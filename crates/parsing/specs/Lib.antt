@@ -2,6 +2,7 @@
 pub mod Record
 pub mod Kind
 pub mod Walk
+pub mod Search
 pub mod Section
 pub mod Place
 pub mod Outline

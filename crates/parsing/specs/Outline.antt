@@ -9,7 +9,7 @@ use Rattle.parsing.specs.declared.sections.Section.{Section}
 use Rattle.parsing.specs.declared.outline.Parsed.{Parsed}
 use Rattle.parsing.specs.Record.{kindIs}
 use Rattle.parsing.specs.Walk.{inSequence, truthOf}
-use Rattle.parsing.specs.Section.{noFields, propertyFields, variablesOf, transitionsOf, expressionsOf, leastNodes, mostNodes, nodesOf, edgesOf}
+use Rattle.parsing.specs.Section.{noFields, propertyFields, variablesOf, transitionsOf, expressionsOf, phasesOr, nodesOf, edgesOf}
 
 -- the file goes on behind a part or a section that ends, or its refusal stands
 abbrev pub andParse : Walked → (ℕ → Parsed) → Parsed
@@ -31,8 +31,8 @@ edgesParsed file vars transition transitions property node nodes edge =
 -- the nodes, from `node` on: "too few nodes is 3"
 unfoldable pub nodesParsed : List ℕ → ℕ → ℕ → ℕ → ℕ → ℕ → Parsed
 nodesParsed file vars transition transitions property node =
-    andSection (nodesOf file vars (mostNodes file property) node) λ nodes edge.
-    cond (leb (leastNodes file property) nodes)
+    andSection (nodesOf file vars (phasesOr file property 32) node) λ nodes edge.
+    cond (leb (phasesOr file property 1) nodes)
     (edgesParsed file vars transition transitions property node nodes edge)
     (Parsed.Refused 3 edge)
 

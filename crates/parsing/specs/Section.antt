@@ -1,6 +1,6 @@
 -- The sections of a file ("The file"): at each record "3 to 6 are tried in that order", first record first.
 use Prim.Native.Nat.{ℕ, zero, suc, _+_, _*_, _-_}
-use mathlib.Core.Bool.{Bool, true, false, cond, _&&_, _||_}
+use mathlib.Core.Bool.{Bool, cond, _&&_, _||_}
 use mathlib.Core.List.{List}
 use lib.ListN.{getD, set, replicate}
 use lib.Dec.{ltb, leb, eqb}
@@ -8,6 +8,7 @@ use lib.Signed.{leZ}
 use Rattle.parsing.specs.declared.walk.Walked.{Walked}
 use Rattle.parsing.specs.declared.sections.Section.{Section}
 use Rattle.parsing.specs.Record.{fieldA, fieldB, fieldC, fieldD, valueB, valueC, kindIs, zerosOf, sameBytes}
+use Rattle.parsing.specs.Search.{any}
 use Rattle.parsing.specs.Kind.{number, truth}
 use Rattle.parsing.specs.Walk.{andThen, walkOf, truthOf}
 
@@ -85,12 +86,9 @@ transitionsOf file vars at = itemsOf file 0x03 (transitionFields file) (transiti
 unfoldable pub expressionsOf : List ℕ → ℕ → ℕ
 expressionsOf file at = cond (eqb (fieldA file at) 1) 1 (cond (eqb (fieldA file at) 2) (fieldB file at + 1) 2)
 
--- "06 node, then its assertion (truth): 1 to 32; for wait-for exactly b"
-unfoldable pub leastNodes : List ℕ → ℕ → ℕ
-leastNodes file property = cond (eqb (fieldA file property) 2) (fieldB file property) 1
-
-unfoldable pub mostNodes : List ℕ → ℕ → ℕ
-mostNodes file property = cond (eqb (fieldA file property) 2) (fieldB file property) 32
+-- "06 node, then its assertion (truth): 1 to 32; for wait-for exactly b": a wait-for's b, or the limit of the other diagrams
+unfoldable pub phasesOr : List ℕ → ℕ → ℕ → ℕ
+phasesOr file property limit = cond (eqb (fieldA file property) 2) (fieldB file property) limit
 
 abbrev pub nodeOf : List ℕ → ℕ → ℕ → Walked
 nodeOf file vars at = truthOf file vars (at + 1)
@@ -100,8 +98,7 @@ nodesOf file vars most at = itemsOf file 0x06 (noFields file) (nodeOf file vars)
 
 -- one of the n edges from `first` on has the a, b and c of the edge at `at`
 unfoldable pub repeatedOf : List ℕ → ℕ → ℕ → ℕ → Bool
-repeatedOf file at first zero = false
-repeatedOf file at first (suc n) = sameBytes file (8 * first + 1) (8 * at + 1) 5 || repeatedOf file at (first + 1) n
+repeatedOf file at first n = any (λ e. sameBytes file (8 * e + 1) (8 * at + 1) 5) n first
 
 -- "0 to 512"; `first` is the first edge's record
 unfoldable pub edgesOf : List ℕ → ℕ → ℕ → ℕ → Section

@@ -5,9 +5,8 @@ use crate::records::zeros;
 use crate::sections::Section;
 use crate::sections::edges;
 use crate::sections::expressions;
-use crate::sections::least_nodes;
-use crate::sections::most_nodes;
 use crate::sections::nodes;
+use crate::sections::phases_or;
 use crate::sections::property_fields;
 use crate::sections::transitions;
 use crate::sections::variables;
@@ -83,11 +82,11 @@ fn parse_nodes(
     requires { ⌜ 8 * property + 8 ≤ length (now file) ⌝ }
     ensures { λ r. ⌜ r ≡ nodesParsed (now (file .entry)) vars transition transitions property node ⌝ }
 {
-    let most = most_nodes(file, property);
+    let most = phases_or(file, property, 32);
     let found = nodes(file, vars, most, node);
     match found {
         Section::Items(count, edge) => {
-            if count < least_nodes(file, property) {
+            if count < phases_or(file, property, 1) {
                 return Parsed::Refused(3, edge);
             }
             parse_edges(

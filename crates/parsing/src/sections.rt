@@ -12,7 +12,7 @@ ghost use mathlib.Core.Path.{_≡_};
 ghost use Prim.Native.Nat.{_+_, _*_, _/_, _≤_, _<_};
 ghost use lib.ListN.{length, replicate};
 ghost use Rattle.parsing.specs.Place.{placesOf};
-ghost use Rattle.parsing.specs.Section.{variableFields, transitionFields, assignmentFields, propertyFields, edgeFields, variablesOf, assignmentsOf, transitionOf, transitionsOf, expressionsOf, leastNodes, mostNodes, nodeOf, nodesOf, repeatedOf, edgesOf};
+ghost use Rattle.parsing.specs.Section.{variableFields, transitionFields, assignmentFields, propertyFields, edgeFields, variablesOf, assignmentsOf, transitionOf, transitionsOf, expressionsOf, phasesOr, nodeOf, nodesOf, repeatedOf, edgesOf};
 
 // Where a section ends: how many items it has and the record behind it, or refused, with the number and the record.
 pub enum Section {
@@ -228,26 +228,15 @@ pub fn expressions(file: &[u8], at: usize) -> usize
     2
 }
 
-// The fewest nodes that the property allows.
-pub(crate) fn least_nodes(file: &[u8], property: usize) -> usize
-    requires { ⌜ 8 * property + 8 ≤ length (now file) ⌝ }
-    ensures { λ r. ⌜ r ≡ leastNodes (now (file .entry)) property ⌝ }
+// How many nodes a wait-for has, or else the limit given.
+pub(crate) fn phases_or(file: &[u8], property: usize, limit: usize) -> usize
+    requires { ⌜ (8 * property + 8 ≤ length (now file)) × (limit < 65536) ⌝ }
+    ensures { λ r. ⌜ (r ≡ phasesOr (now (file .entry)) property limit) × (r < 65536) ⌝ }
 {
     if file[8 * property + 1] == 2 {
         return word_at(file, 8 * property + 2);
     }
-    1
-}
-
-// The most nodes that the property allows.
-pub(crate) fn most_nodes(file: &[u8], property: usize) -> usize
-    requires { ⌜ 8 * property + 8 ≤ length (now file) ⌝ }
-    ensures { λ r. ⌜ (r ≡ mostNodes (now (file .entry)) property) × (r < 65536) ⌝ }
-{
-    if file[8 * property + 1] == 2 {
-        return word_at(file, 8 * property + 2);
-    }
-    32
+    limit
 }
 
 // The nodes, at most `most` of them, from record `from` on.

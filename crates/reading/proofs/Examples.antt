@@ -13,7 +13,7 @@ use Rattle.parsing.specs.Walk
 use Rattle.parsing.specs.Section
 use Rattle.parsing.specs.Outline
 use Rattle.reading.specs.declared.Reading.{Reading}
-use Rattle.reading.specs.Search
+use Rattle.parsing.specs.Search
 use Rattle.reading.specs.States
 use Rattle.reading.specs.Interval
 use Rattle.reading.specs.Edge
@@ -253,13 +253,13 @@ unfolding flatten Bytes.signed16 Ends.minZ Ends.maxZ Ends.around Ends.overEnds E
     Record.kindIs Record.zerosOf Record.sameBytes Kind.within Kind.formOf Kind.signatureOf
     Walk.expressionFields Walk.inSequence Walk.recordThen Walk.walkOf
     Section.variableFields Section.transitionFields Section.assignmentFields Section.propertyFields Section.edgeFields Section.itemsOf
-    Section.variablesOf Section.assignmentsOf Section.transitionOf Section.transitionsOf Section.expressionsOf Section.leastNodes Section.mostNodes
+    Section.variablesOf Section.assignmentsOf Section.transitionOf Section.transitionsOf Section.expressionsOf Section.phasesOr
     Section.nodesOf Section.repeatedOf Section.edgesOf
     Outline.edgesParsed Outline.nodesParsed Outline.propertyParsed Outline.transitionsParsed Outline.startParsed Outline.parsedOf
     Search.any Search.refuseFirst States.sizeOf States.statesOf
     Interval.leafOf Interval.combine Interval.joinOf Interval.ownOf Interval.byOperands Interval.analysisOf Interval.analysedFrom Interval.intervalsOf
     Edge.descending Edge.transitionAt Edge.justOf Edge.conflictOf Edge.chainRuleOf Edge.ruleOf Edge.rulesOf Edge.doubleFrom Edge.doubledOf Edge.doublesOf
-    Read.doublesRead Read.rulesRead Read.intervalsRead Read.statesRead Read.parsedRead Read.readOf
+    Read.stagesRead Read.parsedRead Read.readOf
 columns = refl
 
 -- two functions that give one column agree at each of its rows

@@ -1,5 +1,4 @@
 -- The definitions one step at a time, as the code goes.
-pub mod Search
 pub mod States
 pub mod Interval
 pub mod Edge

@@ -12,7 +12,7 @@ use Rattle.parsing.specs.Record.{fieldA, fieldB, fieldC, fieldD}
 use Rattle.parsing.specs.Section.{transitionOf}
 use Rattle.parsing.specs.Place.{placeOf, placesOf}
 use Rattle.reading.specs.States.{Ranges}
-use Rattle.reading.specs.Search.{any, refuseFirst}
+use Rattle.parsing.specs.Search.{any, refuseFirst}
 
 -- an edge: a transition, b from, c to, d = 0 single, 1 double
 abbrev pub single : List ℕ → ℕ → Bool

@@ -1,5 +1,4 @@
 -- Refusals 7 to 10, in their order, and the whole.
-pub mod Search
 pub mod States
 pub mod Interval
 pub mod Edge

@@ -16,25 +16,18 @@ abbrev pub andStage : Walked → Reading → Reading
 andStage (Walked.End end) next = next
 andStage (Walked.Refused number place) next = Reading.Refused number place
 
--- 10, then the outline
-unfoldable pub doublesRead : List ℕ → Outline → Reading
-doublesRead file o = andStage (doublesOf file o) (Reading.Readable o)
+-- 7, then 8, then 9, then 10
+unfoldable pub stagesRead : List ℕ → Outline → Reading
+stagesRead file o =
+    andStage (statesOf file (o .vars) 0 1)
+    (andStage (intervalsOf file)
+    (andStage (rulesOf file o)
+    (andStage (doublesOf file o)
+    (Reading.Readable o))))
 
--- 9, then 10
-unfoldable pub rulesRead : List ℕ → Outline → Reading
-rulesRead file o = andStage (rulesOf file o) (doublesRead file o)
-
--- 8, then 9
-unfoldable pub intervalsRead : List ℕ → Outline → Reading
-intervalsRead file o = andStage (intervalsOf file) (rulesRead file o)
-
--- 7, then 8
-unfoldable pub statesRead : List ℕ → Outline → Reading
-statesRead file o = andStage (statesOf file (o .vars) 0 1) (intervalsRead file o)
-
--- 2 to 6, then 7
+-- 2 to 6, then those
 unfoldable pub parsedRead : List ℕ → Parsed → Reading
-parsedRead file (Parsed.Whole o) = statesRead file o
+parsedRead file (Parsed.Whole o) = stagesRead file o
 parsedRead file (Parsed.Refused number place) = Reading.Refused number place
 
 unfoldable pub readOf : List ℕ → Reading

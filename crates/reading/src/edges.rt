@@ -9,7 +9,7 @@ ghost use Prim.Native.Nat.{_+_, _*_, _≤_, _<_};
 ghost use lib.ListN.{length};
 ghost use Rattle.parsing.specs.Section.{transitionOf};
 ghost use Rattle.parsing.specs.Place.{placesOf};
-ghost use Rattle.reading.specs.Search.{any};
+ghost use Rattle.parsing.specs.Search.{any};
 ghost use Rattle.reading.specs.Edge.{descending, conflictOf, justOf, chainRuleOf, ruleOf, rulesOf, doubleFrom, doubledOf, doublesOf, Fits, EdgeFits};
 
 // Whether two edges conflict: from one node, either of one transition, single and double, or both double.

@@ -5,7 +5,7 @@ use parsing::outline::parse;
 use parsing::walk::Walked;
 ghost use mathlib.Core.Path.{_≡_};
 ghost use Rattle.reading.specs.Edge.{Fits};
-ghost use Rattle.reading.specs.Read.{doublesRead, rulesRead, intervalsRead, statesRead, readOf};
+ghost use Rattle.reading.specs.Read.{stagesRead, readOf};
 
 pub mod edges;
 pub mod intervals;
@@ -17,52 +17,28 @@ pub enum Reading {
     Refused(u8, usize),
 }
 
-// The double edges of a chain (10), then the outline.
-fn read_doubles(file: &[u8], outline: Outline) -> Reading
+// The refusals 7 to 10 of a file that parses, in their order, or its outline.
+fn read_parsed(file: &[u8], outline: Outline) -> Reading
     requires { ⌜ Fits (now file) outline ⌝ }
-    ensures { λ r. ⌜ r ≡ doublesRead (now (file .entry)) outline ⌝ }
+    ensures { λ r. ⌜ r ≡ stagesRead (now (file .entry)) outline ⌝ }
 {
-    let found = edges::doubles(file, outline);
-    match found {
-        Walked::End(_) => Reading::Readable(outline),
-        Walked::Refused(number, place) => Reading::Refused(number, place),
+    let states = states::states(file, outline.vars);
+    if let Walked::Refused(number, place) = states {
+        return Reading::Refused(number, place);
     }
-}
-
-// The edge rules (9), and what follows.
-fn read_rules(file: &[u8], outline: Outline) -> Reading
-    requires { ⌜ Fits (now file) outline ⌝ }
-    ensures { λ r. ⌜ r ≡ rulesRead (now (file .entry)) outline ⌝ }
-{
-    let found = edges::rules(file, outline);
-    match found {
-        Walked::End(_) => read_doubles(file, outline),
-        Walked::Refused(number, place) => Reading::Refused(number, place),
+    let intervals = intervals::intervals(file);
+    if let Walked::Refused(number, place) = intervals {
+        return Reading::Refused(number, place);
     }
-}
-
-// The intervals (8), and what follows.
-fn read_intervals(file: &[u8], outline: Outline) -> Reading
-    requires { ⌜ Fits (now file) outline ⌝ }
-    ensures { λ r. ⌜ r ≡ intervalsRead (now (file .entry)) outline ⌝ }
-{
-    let found = intervals::intervals(file);
-    match found {
-        Walked::End(_) => read_rules(file, outline),
-        Walked::Refused(number, place) => Reading::Refused(number, place),
+    let rules = edges::rules(file, outline);
+    if let Walked::Refused(number, place) = rules {
+        return Reading::Refused(number, place);
     }
-}
-
-// The number of states (7), and what follows.
-fn read_states(file: &[u8], outline: Outline) -> Reading
-    requires { ⌜ Fits (now file) outline ⌝ }
-    ensures { λ r. ⌜ r ≡ statesRead (now (file .entry)) outline ⌝ }
-{
-    let found = states::states(file, outline.vars);
-    match found {
-        Walked::End(_) => read_intervals(file, outline),
-        Walked::Refused(number, place) => Reading::Refused(number, place),
+    let doubles = edges::doubles(file, outline);
+    if let Walked::Refused(number, place) = doubles {
+        return Reading::Refused(number, place);
     }
+    Reading::Readable(outline)
 }
 
 // Reads a file: the refusals 2 to 10, or where its parts stand.
@@ -71,7 +47,7 @@ pub fn read(file: &[u8]) -> Reading
 {
     let found = parse(file);
     match found {
-        Parsed::Whole(outline) => read_states(file, outline),
+        Parsed::Whole(outline) => read_parsed(file, outline),
         Parsed::Refused(number, place) => Reading::Refused(number, place),
     }
 }

@@ -17,7 +17,7 @@ use Rattle.parsing.specs.declared.outline.Outline.{Outline}
 use Rattle.parsing.specs.declared.outline.Parsed.{Parsed}
 use Rattle.parsing.specs.Walk.{inSequence}
 use Rattle.parsing.specs.Record.{kindIs}
-use Rattle.parsing.specs.Section.{noFields, variableFields, propertyFields, variablesOf, transitionsOf, expressionsOf, leastNodes, mostNodes, nodesOf, edgesOf}
+use Rattle.parsing.specs.Section.{noFields, variableFields, propertyFields, variablesOf, transitionsOf, expressionsOf, phasesOr, nodesOf, edgesOf}
 use Rattle.parsing.specs.Walk.{truthOf}
 use Rattle.parsing.proofs.Laws.Section.{items-single}
 use Rattle.parsing.specs.Outline.{andParse, andSection, edgesParsed, nodesParsed, propertyParsed, transitionsParsed, startParsed, parsedOf}
@@ -33,8 +33,8 @@ pub record Parses (file : List ℕ) (o : Outline) : Type 0 where
   pub property-named : kindIs file 0x05 (o .property) ≡ true
   pub property-right : propertyFields file (o .property) ≡ true
   pub truths : inSequence (truthOf file (o .vars)) (expressionsOf file (o .property)) (o .property + 1) ≡ End (o .node)
-  pub nodes : nodesOf file (o .vars) (mostNodes file (o .property)) (o .node) ≡ Items (o .nodes) (o .edge)
-  pub enough : leastNodes file (o .property) ≤ o .nodes
+  pub nodes : nodesOf file (o .vars) (phasesOr file (o .property) 32) (o .node) ≡ Items (o .nodes) (o .edge)
+  pub enough : phasesOr file (o .property) 1 ≤ o .nodes
   pub edges : edgesOf file (o .transitions) (o .nodes) (o .edge) ≡ Items (o .edges) (length file / 8)
 
 passed : (o : Outline) (b : Bool) (p : Parsed) (n i : ℕ) → cond b p (Parsed.Refused n i) ≡ Parsed.Whole o → (b ≡ true) × (p ≡ Parsed.Whole o)
@@ -55,7 +55,7 @@ module _ (file : List ℕ) (o : Outline) (whole : length file % 8 ≡ 0) (small 
       module _ (transitions property : ℕ) (named : transitionsOf file vars transition ≡ Items transitions property) where
         module _ (node : ℕ) (property-named : kindIs file 0x05 property ≡ true) (property-right : propertyFields file property ≡ true)
             (truths : inSequence (truthOf file vars) (expressionsOf file property) (property + 1) ≡ End node) where
-          module _ (nodes edge : ℕ) (there : nodesOf file vars (mostNodes file property) node ≡ Items nodes edge) (enough : leastNodes file property ≤ nodes) where
+          module _ (nodes edge : ℕ) (there : nodesOf file vars (phasesOr file property 32) node ≡ Items nodes edge) (enough : phasesOr file property 1 ≤ nodes) where
             abbrev outline : ℕ → Outline
             outline edges = record { vars = vars; transition = transition; transitions = transitions; property = property; node = node; nodes = nodes; edge = edge; edges = edges }
 
@@ -85,12 +85,12 @@ module _ (file : List ℕ) (o : Outline) (whole : length file % 8 ≡ 0) (small 
                 all edges end is (eqb-true _ _ (p .0)) (same o (outline edges) (p .1))
             edges-from (Section.Refused n i) is e = let z : _≡_ {A = ℕ} 0 1 = cc in absurd (omega arith)
 
-          nodes-from : (s : Section) → nodesOf file vars (mostNodes file property) node ≡ s
-              → andSection s (λ nodes edge. cond (leb (leastNodes file property) nodes) (edgesParsed file vars transition transitions property node nodes edge) (Parsed.Refused 3 edge)) ≡ Parsed.Whole o
+          nodes-from : (s : Section) → nodesOf file vars (phasesOr file property 32) node ≡ s
+              → andSection s (λ nodes edge. cond (leb (phasesOr file property 1) nodes) (edgesParsed file vars transition transitions property node nodes edge) (Parsed.Refused 3 edge)) ≡ Parsed.Whole o
               → Parses file o
           unfolding edgesParsed
           nodes-from (Section.Items nodes edge) is e =
-              let p = passed o (leb (leastNodes file property) nodes) (edgesParsed file vars transition transitions property node nodes edge) 3 edge e in
+              let p = passed o (leb (phasesOr file property 1) nodes) (edgesParsed file vars transition transitions property node nodes edge) 3 edge e in
               edges-from nodes edge is (leb-true _ _ (p .0)) (edgesOf file transitions nodes edge) refl (p .1)
           nodes-from (Section.Refused n i) is e = let z : _≡_ {A = ℕ} 0 1 = cc in absurd (omega arith)
 
@@ -98,7 +98,7 @@ module _ (file : List ℕ) (o : Outline) (whole : length file % 8 ≡ 0) (small 
             → (w : Walked) → inSequence (truthOf file vars) (expressionsOf file property) (property + 1) ≡ w
             → andParse w (nodesParsed file vars transition transitions property) ≡ Parsed.Whole o → Parses file o
         unfolding nodesParsed
-        truths-from k f (Walked.End node) is e = nodes-from node k f is (nodesOf file vars (mostNodes file property) node) refl e
+        truths-from k f (Walked.End node) is e = nodes-from node k f is (nodesOf file vars (phasesOr file property 32) node) refl e
         truths-from k f (Walked.Refused n i) is e = let z : _≡_ {A = ℕ} 0 1 = cc in absurd (omega arith)
 
       property-from : (s : Section) → transitionsOf file vars transition ≡ s → andSection s (propertyParsed file vars transition) ≡ Parsed.Whole o → Parses file o

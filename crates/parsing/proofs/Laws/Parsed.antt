@@ -19,7 +19,8 @@ use Rattle.parsing.specs.declared.walk.Walked.{Walked}
 use Rattle.parsing.specs.declared.outline.Outline.{Outline}
 use Rattle.parsing.specs.Record.{fieldA, fieldB, fieldC, fieldD, valueB, valueC, zerosOf, sameBytes}
 use Rattle.parsing.specs.Walk.{truthOf}
-use Rattle.parsing.specs.Section.{noFields, variableFields, transitionFields, propertyFields, edgeFields, variablesOf, transitionOf, transitionsOf, leastNodes, mostNodes, nodesOf, repeatedOf, edgesOf}
+use Rattle.parsing.specs.Section.{noFields, variableFields, transitionFields, propertyFields, edgeFields, variablesOf, transitionOf, transitionsOf, phasesOr, nodesOf, repeatedOf, edgesOf}
+use Rattle.parsing.proofs.Laws.Search.{any-false}
 use Rattle.parsing.proofs.Laws.Section.{items-most, items-single, single-nth}
 use Rattle.parsing.proofs.Laws.Outline.{Parses}
 
@@ -34,8 +35,8 @@ module _ (file : List ℕ) (at : ℕ) where
       (leb-true 1 (fieldB file at) (q .0), leb-true (fieldB file at) 32 (q .1))
   phases false other e = (omega arith, omega arith)
 
-  pub property-nodes : propertyFields file at ≡ true → (1 ≤ leastNodes file at) × (mostNodes file at ≤ 32)
-  unfolding propertyFields leastNodes mostNodes
+  pub property-nodes : propertyFields file at ≡ true → (1 ≤ phasesOr file at 1) × (phasesOr file at 32 ≤ 32)
+  unfolding propertyFields phasesOr
   property-nodes e = phases (eqb (fieldA file at) 2) ((eqb (fieldA file at) 1 || eqb (fieldA file at) 3) && zerosOf file (8 * at + 2) 6) e
 
 -- ---- an edge's own test
@@ -46,20 +47,6 @@ repeat-single i e false q = cc
 repeat-new : (i e : ℕ) (b : Bool) → cond b (Walked.Refused 6 i) (Walked.End (i + 1)) ≡ Walked.End e → b ≡ false
 repeat-new i e true q = let z : _≡_ {A = ℕ} 0 1 = cc in absurd (omega arith)
 repeat-new i e false q = refl
-
-or-false-both : (a b : Bool) → (a || b) ≡ false → (a ≡ false) × (b ≡ false)
-or-false-both true b e = let z : _≡_ {A = ℕ} 0 1 = cc in absurd (omega arith)
-or-false-both false b e = (refl, e)
-
-repeated-false : (file : List ℕ) (at first n : ℕ) → repeatedOf file at first n ≡ false → (i : ℕ) → i < n → sameBytes file (8 * (first + i) + 1) (8 * at + 1) 5 ≡ false
-unfolding repeatedOf
-repeated-false file at first zero e i l = absurd (omega arith)
-repeated-false file at first (suc n) e zero l =
-    let z : first + 0 ≡ first = omega arith in
-    rw z (or-false-both (sameBytes file (8 * first + 1) (8 * at + 1) 5) (repeatedOf file at (first + 1) n) e .0)
-repeated-false file at first (suc n) e (suc i) l =
-    let z : first + suc i ≡ first + 1 + i = omega arith in
-    rw z (repeated-false file at (first + 1) n (or-false-both (sameBytes file (8 * first + 1) (8 * at + 1) 5) (repeatedOf file at (first + 1) n) e .1) i (omega arith))
 
 module _ (file : List ℕ) (o : Outline) (p : Parses file o) where
   -- ---- counts
@@ -78,7 +65,7 @@ module _ (file : List ℕ) (o : Outline) (p : Parses file o) where
   unfolding nodesOf
   nodes-most =
       let z = property-nodes file (o .property) (p .property-right) .1 in
-      let y = items-most file 0x06 (noFields file) (λ i. truthOf file (o .vars) (i + 1)) (o .nodes) (o .edge) (mostNodes file (o .property)) 0 (o .node) (p .nodes) in
+      let y = items-most file 0x06 (noFields file) (λ i. truthOf file (o .vars) (i + 1)) (o .nodes) (o .edge) (phasesOr file (o .property) 32) 0 (o .node) (p .nodes) in
       omega arith
 
   abbrev edge : ℕ → Walked
@@ -145,6 +132,7 @@ module _ (file : List ℕ) (o : Outline) (p : Parses file o) where
   edge-double e l = edge-named e l .3
 
   pub edge-new : (i j : ℕ) → i < j → j < o .edges → sameBytes file (8 * (o .edge + i) + 1) (8 * (o .edge + j) + 1) 5 ≡ false
+  unfolding repeatedOf
   edge-new i j l m =
       let at = o .edge + j in
-      repeated-false file at (o .edge) (at - o .edge) (repeat-new at (at + 1) (repeatedOf file at (o .edge) (at - o .edge)) (edge-both j m .1)) i (omega arith)
+      any-false (λ e. sameBytes file (8 * e + 1) (8 * at + 1) 5) (at - o .edge) (o .edge) (repeat-new at (at + 1) (repeatedOf file at (o .edge) (at - o .edge)) (edge-both j m .1)) i (omega arith)

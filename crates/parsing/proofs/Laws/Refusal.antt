@@ -15,7 +15,7 @@ use Rattle.parsing.specs.declared.outline.Parsed.{Parsed}
 use Rattle.parsing.specs.Record.{fieldA, kindIs}
 use Rattle.parsing.specs.Kind.{number, truth, signatureAt}
 use Rattle.parsing.specs.Walk.{expressionFields, andThen, inSequence, recordThen, walkOf, truthOf}
-use Rattle.parsing.specs.Section.{noFields, variableFields, transitionFields, assignmentFields, propertyFields, edgeFields, andItems, itemsOf, variablesOf, assignmentsOf, transitionOf, transitionsOf, expressionsOf, leastNodes, mostNodes, nodeOf, nodesOf, repeatedOf, edgesOf}
+use Rattle.parsing.specs.Section.{noFields, variableFields, transitionFields, assignmentFields, propertyFields, edgeFields, andItems, itemsOf, variablesOf, assignmentsOf, transitionOf, transitionsOf, expressionsOf, phasesOr, nodeOf, nodesOf, repeatedOf, edgesOf}
 use Rattle.parsing.specs.Outline.{andParse, andSection, edgesParsed, nodesParsed, propertyParsed, transitionsParsed, startParsed, parsedOf}
 use Rattle.parsing.specs.Refusal.{Refusal, Refuses}
 use Rattle.parsing.proofs.Laws.Walk.{walk-bound, sequence-bound}
@@ -205,13 +205,13 @@ module _ (file : List ℕ) where
   nodes-refuses : (vars transition transitions property at : ℕ) → at ≤ count → Right (nodesParsed file vars transition transitions property at)
   unfolding nodesParsed nodesOf
   nodes-refuses vars transition transitions property at l =
-      let most = mostNodes file property in
+      let most = phasesOr file property 32 in
       let ends : (i e : ℕ) → nodeOf file vars i ≡ Walked.End e → i < count → e ≤ count = λ i e q m. walk-bound file vars 16 truth (i + 1) e q .1 in
       section-then count (nodesOf file vars most at) (section-refuses file vars 0x06 (noFields file) (nodeOf file vars) (node-refuses file vars) ends most 0 at l)
-      (λ nodes edge. cond (leb (leastNodes file property) nodes) (edgesParsed file vars transition transitions property at nodes edge) (Parsed.Refused 3 edge))
+      (λ nodes edge. cond (leb (phasesOr file property 1) nodes) (edgesParsed file vars transition transitions property at nodes edge) (Parsed.Refused 3 edge))
       (λ n x e.
       let m = section-within file vars 0x06 (noFields file) (nodeOf file vars) (node-refuses file vars) ends most 0 at n x l e in
-      by-test Parsed.Refused count (leb (leastNodes file property) n) (edgesParsed file vars transition transitions property at n x) (Parsed.Refused 3 x)
+      by-test Parsed.Refused count (leb (phasesOr file property 1) n) (edgesParsed file vars transition transitions property at n x) (Parsed.Refused 3 x)
       (λ t. edges-refuses vars transition transitions property at n x m)
       (λ t. parsed-refused count 3 x (omega arith) (omega arith) m))
 

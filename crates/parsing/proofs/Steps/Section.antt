@@ -1,7 +1,7 @@
--- What a section does at a record, by the tests in their order, and one step of the search for an edge's like, as the code takes it.
+-- What a section does at a record, by the tests in their order.
 -- Assumes nothing.
 use mathlib.Core.Path.{_≡_, refl}
-use mathlib.Core.Bool.{Bool, true, false, _||_, and-eq-true-iff}
+use mathlib.Core.Bool.{Bool, true, false, and-eq-true-iff}
 use mathlib.Core.List.{List}
 use Prim.Native.Nat.{ℕ, zero, suc, _+_, _-_, _*_, _<_, _≤_}
 use native.Mathlib.Numerals.{sub-one}
@@ -11,10 +11,10 @@ use lib.ListN.{getD, set}
 use lib.Dec.{ltb}
 use Rattle.parsing.specs.declared.walk.Walked.{Walked}
 use Rattle.parsing.specs.declared.sections.Section.{Section}
-use Rattle.parsing.specs.Record.{fieldA, kindIs, zerosOf, sameBytes}
+use Rattle.parsing.specs.Record.{fieldA, kindIs, zerosOf}
 use Rattle.parsing.specs.Kind.{number}
 use Rattle.parsing.specs.Walk.{walkOf}
-use Rattle.parsing.specs.Section.{assignmentFields, itemsOf, assignmentsOf, repeatedOf}
+use Rattle.parsing.specs.Section.{assignmentFields, itemsOf, assignmentsOf}
 
 -- ---- items
 module _ (file : List ℕ) (kind : ℕ) (fields : ℕ → Bool) (item : ℕ → Walked) where
@@ -83,14 +83,3 @@ module _ (file : List ℕ) (vars : ℕ) (assigned : List ℕ) (at : ℕ) where
         unfolding assignmentsOf
         assign-refused zero n place h e = absurd (h refl)
         assign-refused (suc left) n place h e = rw (k, f, eq-eqb _ _ free, e)
-
--- ---- edges
-pub repeated-step : (file : List ℕ) (at first n : ℕ) → 0 < n → repeatedOf file at first n ≡ (sameBytes file (8 * first + 1) (8 * at + 1) 5 || repeatedOf file at (first + 1) (n - 1))
-unfolding repeatedOf
-repeated-step file at first zero h = absurd (omega arith)
-repeated-step file at first (suc n) h = rw (sub-one)
-
-pub repeated-none : (file : List ℕ) (at first n : ℕ) → n ≤ 0 → repeatedOf file at first n ≡ false
-unfolding repeatedOf
-repeated-none file at first zero h = refl
-repeated-none file at first (suc n) h = absurd (omega arith)

@@ -14,58 +14,19 @@ use Rattle.parsing.specs.declared.walk.Walked.{Walked}
 use Rattle.parsing.specs.declared.outline.Outline.{Outline}
 use Rattle.parsing.specs.Record.{fieldA, fieldB, fieldC, fieldD}
 use Rattle.parsing.proofs.Laws.Parsed as parsed
-use Rattle.reading.specs.Search.{any, refuseFirst}
+use Rattle.parsing.specs.Search.{any, refuseFirst}
+use Rattle.parsing.proofs.Laws.Search.{any-false, any-some, refuse-all}
 use Rattle.reading.specs.Edge.{single, double, diagram, descending, justOf, conflictOf, chainRuleOf, ruleOf, rulesOf, doubleFrom, doubledOf, doublesOf}
 use Rattle.reading.specs.Readable.{Edge, DoubleTransition}
 use Rattle.reading.proofs.Laws.Stage.{Stages}
 
--- ---- tests in a row
+-- ---- tests
 differ : true ≡ false → ⊥
 differ e = let z : _≡_ {A = ℕ} 0 1 = cc in omega arith
 
 other : (a b : Bool) → (a || b) ≡ true → a ≡ false → b ≡ true
 other true b e f = absurd (differ f)
 other false b e f = e
-
-neither : (a b : Bool) → (a || b) ≡ false → (a ≡ false) × (b ≡ false)
-neither true b e = absurd (differ e)
-neither false b e = (refl, e)
-
-refuse-all : (number : ℕ) (test : ℕ → Bool) (end left at : ℕ) → refuseFirst number test left at ≡ Walked.End end → (i : ℕ) → i < left → test (at + i) ≡ true
-unfolding refuseFirst
-refuse-all number test end zero at e i l = absurd (omega arith)
-refuse-all number test end (suc left) at e i l = go (test at) refl e i l (refuse-all number test end left (at + 1))
-  where
-    go : (b : Bool) → test at ≡ b → cond b (refuseFirst number test left (at + 1)) (Walked.Refused number at) ≡ Walked.End end → (i : ℕ) → i < suc left
-        → (refuseFirst number test left (at + 1) ≡ Walked.End end → (j : ℕ) → j < left → test (at + 1 + j) ≡ true) → test (at + i) ≡ true
-    go true t q zero l h = let z : at + 0 ≡ at = omega arith in rw z t
-    go true t q (suc j) l h = let z : at + suc j ≡ at + 1 + j = omega arith in rw z (h q j (omega arith))
-    go false t q i l h = let z : _≡_ {A = ℕ} 0 1 = cc in absurd (omega arith)
-
-any-false : (test : ℕ → Bool) (n at : ℕ) → any test n at ≡ false → (i : ℕ) → i < n → test (at + i) ≡ false
-unfolding any
-any-false test zero at e i l = absurd (omega arith)
-any-false test (suc n) at e zero l = let z : at + 0 ≡ at = omega arith in rw z (neither (test at) (any test n (at + 1)) e .0)
-any-false test (suc n) at e (suc i) l =
-    let z : at + suc i ≡ at + 1 + i = omega arith in
-    rw z (any-false test n (at + 1) (neither (test at) (any test n (at + 1)) e .1) i (omega arith))
-
--- one of the n numbers from `at` on that passes a test
-record Some (test : ℕ → Bool) (n at : ℕ) : Type 0 where
-  which : ℕ
-  below : which < n
-  passes : test (at + which) ≡ true
-
-any-some : (test : ℕ → Bool) (n at : ℕ) → any test n at ≡ true → Some test n at
-unfolding any
-any-some test zero at e = absurd (differ (sym e))
-any-some test (suc n) at e = go (test at) refl e (any-some test n (at + 1))
-  where
-    go : (b : Bool) → test at ≡ b → (b || any test n (at + 1)) ≡ true → (any test n (at + 1) ≡ true → Some test n (at + 1)) → Some test (suc n) at
-    go true t q h = record { which = 0; below = omega arith; passes = let z : at + 0 ≡ at = omega arith in rw z t }
-    go false t q h =
-        let s = h q in
-        record { which = s .which + 1; below = omega arith; passes = let z : at + (s .which + 1) ≡ at + 1 + s .which = omega arith in rw z (s .passes) }
 
 module _ (file : List ℕ) (o : Outline) (r : Stages file o) where
   -- ---- what an edge names

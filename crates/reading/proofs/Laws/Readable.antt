@@ -24,7 +24,7 @@ use Rattle.parsing.specs.declared.outline.Outline.{Outline}
 use Rattle.parsing.specs.Record.{fieldA, fieldB, fieldC, fieldD, valueB, valueC, kindIs, zerosOf}
 use Rattle.parsing.specs.Kind.{truth}
 use Rattle.parsing.specs.Walk.{inSequence}
-use Rattle.parsing.specs.Section.{noFields, propertyFields, expressionsOf, leastNodes, mostNodes, transitionOf, nodeOf, nodesOf}
+use Rattle.parsing.specs.Section.{noFields, propertyFields, expressionsOf, phasesOr, transitionOf, nodeOf, nodesOf}
 use Rattle.parsing.proofs.Laws.Section.{items-most}
 use Rattle.parsing.proofs.Laws.Outline.{Parses}
 use Rattle.parsing.proofs.Laws.Parsed as parsed
@@ -74,7 +74,7 @@ module _ (file : List ℕ) (o : Outline) (r : readOf file ≡ Reading.Readable o
 
   -- "for wait-for exactly b"
   pub phases : diagram file o ≡ 2 → o .nodes ≡ fieldB file (o .property)
-  unfolding leastNodes mostNodes nodesOf
+  unfolding phasesOr nodesOf
   phases w =
       let least : fieldB file (o .property) ≤ o .nodes = simp (eq-eqb _ _ w) at (parses .enough) in
       let most : o .nodes ≤ 0 + fieldB file (o .property) =

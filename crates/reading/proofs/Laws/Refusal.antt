@@ -21,11 +21,11 @@ use Rattle.parsing.proofs.Laws.Refusal.{by-test, refuses-more, walked-refused, 
 use Rattle.parsing.proofs.Laws.Outline.{Parses, parses}
 use Rattle.reading.specs.declared.Reading.{Reading}
 use Rattle.reading.specs.declared.intervals.Analysis.{Analysis}
-use Rattle.reading.specs.Search.{refuseFirst}
+use Rattle.parsing.specs.Search.{refuseFirst}
 use Rattle.reading.specs.States.{sizeOf, statesOf}
 use Rattle.reading.specs.Interval.{unit, leafOf, joinOf, ownOf, andInterval, byOperands, analysisOf, andExpression, analysedFrom, intervalsOf}
 use Rattle.reading.specs.Edge.{diagram, ruleOf, rulesOf, doubledOf, doublesOf, Fits}
-use Rattle.reading.specs.Read.{andStage, doublesRead, rulesRead, intervalsRead, statesRead, parsedRead, readOf}
+use Rattle.reading.specs.Read.{andStage, stagesRead, parsedRead, readOf}
 use Rattle.reading.proofs.Laws.Interval.{analysis-within}
 use Rattle.reading.proofs.Laws.Fits.{fits}
 
@@ -124,17 +124,19 @@ stage-then (Walked.End end) h next k = k
 stage-then (Walked.Refused n p) h next k = reading-refused n p (h n p refl)
 
 module _ (file : List ℕ) (o : Outline) (p : Parses file o) where
-  stages-refuse : Right (statesRead file o)
-  unfolding statesRead intervalsRead rulesRead doublesRead intervalsOf rulesOf doublesOf
+  stages-refuse : Right (stagesRead file o)
+  unfolding stagesRead intervalsOf rulesOf doublesOf
   stages-refuse =
       let f = fits file o p in
       let small = p .small in
       let here = f .edges-here in
       let vars = f .vars-most in
       let nodes = f .nodes-most in
-      stage-then (statesOf file (o .vars) 0 1) (states-refuses 4096 file (o .vars) 0 1 (omega arith)) (intervalsRead file o)
-      (stage-then (intervalsOf file) (refuses-more Walked.Refused (length file / 8) 4096 (intervalsOf file) (omega arith) (scan-refuses file (length file / 8) 0 (omega arith))) (rulesRead file o)
-      (stage-then (rulesOf file o) (row-refuses 4096 9 (omega arith) (omega arith) (ruleOf file o) (o .edges) (o .edge) (omega arith)) (doublesRead file o)
+      let doubles = andStage (doublesOf file o) (Reading.Readable o) in
+      let rules = andStage (rulesOf file o) doubles in
+      stage-then (statesOf file (o .vars) 0 1) (states-refuses 4096 file (o .vars) 0 1 (omega arith)) (andStage (intervalsOf file) rules)
+      (stage-then (intervalsOf file) (refuses-more Walked.Refused (length file / 8) 4096 (intervalsOf file) (omega arith) (scan-refuses file (length file / 8) 0 (omega arith))) rules
+      (stage-then (rulesOf file o) (row-refuses 4096 9 (omega arith) (omega arith) (ruleOf file o) (o .edges) (o .edge) (omega arith)) doubles
       (stage-then (doublesOf file o)
       (by-test Walked.Refused 4096 (eqb (diagram file o) 3) (refuseFirst 10 (doubledOf file o) (o .nodes - 1) 1) (Walked.End 0)
       (λ c. row-refuses 4096 10 (omega arith) (omega arith) (doubledOf file o) (o .nodes - 1) 1 (omega arith)) (λ c. walked-ends 4096 0)) (Reading.Readable o)

@@ -17,7 +17,7 @@ use Rattle.parsing.specs.declared.outline.Outline.{Outline}
 use Rattle.parsing.specs.Record.{kindAt, fieldA, kindIs, zerosOf}
 use Rattle.parsing.specs.Kind.{none, number, truth, within, formOf, signatureOf, signatureAt}
 use Rattle.parsing.specs.Walk.{andThen, inSequence, walkOf, truthOf}
-use Rattle.parsing.specs.Section.{noFields, variableFields, transitionFields, assignmentFields, variablesOf, assignmentsOf, transitionOf, transitionsOf, expressionsOf, mostNodes, nodeOf, nodesOf}
+use Rattle.parsing.specs.Section.{noFields, variableFields, transitionFields, assignmentFields, variablesOf, assignmentsOf, transitionOf, transitionsOf, expressionsOf, phasesOr, nodeOf, nodesOf}
 use Rattle.parsing.proofs.Laws.Walk.{walk-opens}
 use Rattle.parsing.proofs.Laws.Section.{items-through, items-reach, sequence-through, sequence-reach}
 use Rattle.parsing.proofs.Laws.Parsed.{variables-most}
@@ -238,6 +238,6 @@ module _ (file : List ℕ) (o : Outline) (r : Stages file o) where
   unfolding nodesOf
   node-scanned n l =
       let h = items-reach file 0x06 (noFields file) (nodeOf file (o .vars)) (Scanned file) (λ x y k w s. node-passing file (o .vars) x y k w s .rest)
-      (o .nodes) (o .edge) (mostNodes file (o .property)) 0 (o .node) (r .parsed .nodes) at-nodes n (omega arith) in
+      (o .nodes) (o .edge) (phasesOr file (o .property) 32) 0 (o .node) (r .parsed .nodes) at-nodes n (omega arith) in
       let p = node-passing file (o .vars) (h .place) (h .end) (h .named) (h .ends) (h .holds) in
       record { place = h .place; end = h .end; reached = h .reached; named = h .named; interval = p .interval; assertion = p .expression }

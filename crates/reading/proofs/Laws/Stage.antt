@@ -14,7 +14,7 @@ use Rattle.reading.specs.declared.Reading.{Reading}
 use Rattle.reading.specs.States.{statesOf}
 use Rattle.reading.specs.Interval.{intervalsOf}
 use Rattle.reading.specs.Edge.{rulesOf, doublesOf}
-use Rattle.reading.specs.Read.{andStage, doublesRead, rulesRead, intervalsRead, statesRead, parsedRead, readOf}
+use Rattle.reading.specs.Read.{andStage, stagesRead, parsedRead, readOf}
 
 -- a stage that refuses nothing
 pub record Passed (w : Walked) : Type 0 where
@@ -37,12 +37,14 @@ module _ (file : List ℕ) (o : Outline) where
   same : (p : Outline) → Reading.Readable p ≡ Reading.Readable o → p ≡ o
   same p e = cc
 
-  stages : (p : Outline) → parsedOf file ≡ Parsed.Whole p → statesRead file p ≡ Reading.Readable o → Stages file o
-  unfolding statesRead intervalsRead rulesRead doublesRead
+  stages : (p : Outline) → parsedOf file ≡ Parsed.Whole p → stagesRead file p ≡ Reading.Readable o → Stages file o
+  unfolding stagesRead
   stages p is e =
-      let s = passed (statesOf file (p .vars) 0 1) (intervalsRead file p) e in
-      let i = passed (intervalsOf file) (rulesRead file p) (s .1) in
-      let r = passed (rulesOf file p) (doublesRead file p) (i .1) in
+      let doubles = andStage (doublesOf file p) (Reading.Readable p) in
+      let rules = andStage (rulesOf file p) doubles in
+      let s = passed (statesOf file (p .vars) 0 1) (andStage (intervalsOf file) rules) e in
+      let i = passed (intervalsOf file) rules (s .1) in
+      let r = passed (rulesOf file p) doubles (i .1) in
       let d = passed (doublesOf file p) (Reading.Readable p) (r .1) in
       subst (Stages file) (same p (d .1)) (record { parsed = parses file p is; states = s .0; intervals = i .0; rules = r .0; doubles = d .0 })
 

@@ -16,7 +16,7 @@ use Rattle.parsing.specs.Section.{transitionOf}
 use Rattle.parsing.specs.Place.{placeOf, placesOf}
 use Rattle.parsing.proofs.Laws.Section.{transitions-bound}
 use Rattle.parsing.proofs.Laws.Place.{places-nth}
-use Rattle.reading.specs.Search.{any, refuseFirst}
+use Rattle.parsing.specs.Search.{any, refuseFirst}
 use Rattle.reading.specs.Edge.{transitionAt, single, diagram, descending, justOf, conflictOf, chainRuleOf, ruleOf, doubledOf, doublesOf, Fits, EdgeFits}
 
 -- ---- where a transition stands

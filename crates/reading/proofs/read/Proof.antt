@@ -10,7 +10,7 @@ use Rattle.reading.proofs.read.Tie as tie
 use Rattle.reading.proofs.read.Reads as reads
 use Rattle.reading.proofs.read.Lts as lts
 use Rattle.parsing.proofs.outline.parse.Reads as parse-reads
-use Rattle.reading.proofs.read_states.Reads as read-states-reads
+use Rattle.reading.proofs.read_parsed.Reads as read-parsed-reads
 
 parse-requires : tie.Need-parse-requires
 parse-requires c κs = search needs
@@ -18,15 +18,15 @@ parse-requires c κs = search needs
 enum-known-found : tie.Need-enum-known-found
 enum-known-found c = search needs
 
-read-states-requires : tie.Need-read-states-requires
-read-states-requires c κs = fits _ _ (parses _ _ (sym (c .before .before .before .parse .ensures) ∙ c .before .found .given .1))
+read-parsed-requires : tie.Need-read-parsed-requires
+read-parsed-requires c κs = fits _ _ (parses _ _ (sym (c .before .before .before .parse .ensures) ∙ c .before .found .given .1))
 
 enum-known-found-2 : tie.Need-enum-known-found-2
 enum-known-found-2 c = search needs
 
 returns : tie.Need-returns
 unfolding readOf parsedRead
-returns c = simp (sym (c .before .before .before .before .parse .ensures) ∙ c .before .before .found .given .1) (c .read-states .ensures)
+returns c = simp (sym (c .before .before .before .before .parse .ensures) ∙ c .before .before .found .given .1) (c .read-parsed .ensures)
 
 returns-2 : tie.Need-returns-2
 unfolding readOf parsedRead
@@ -38,7 +38,7 @@ read-spec =
     (tie.spec
     parse-requires
     enum-known-found
-    read-states-requires
+    read-parsed-requires
     enum-known-found-2
     returns
     returns-2)

@@ -8,13 +8,12 @@ use Rattle.parsing.proofs.outline.parse_nodes.Statement.{statement}
 use Rattle.parsing.proofs.outline.parse_nodes.Tie as tie
 use Rattle.parsing.proofs.outline.parse_nodes.Reads as reads
 use Rattle.parsing.proofs.outline.parse_nodes.Lts as lts
-use Rattle.parsing.proofs.sections.least_nodes.Reads as least-nodes-reads
-use Rattle.parsing.proofs.sections.most_nodes.Reads as most-nodes-reads
+use Rattle.parsing.proofs.sections.phases_or.Reads as phases-or-reads
 use Rattle.parsing.proofs.sections.nodes.Reads as nodes-reads
 use Rattle.parsing.proofs.outline.parse_edges.Reads as parse-edges-reads
 
-most-nodes-requires : tie.Need-most-nodes-requires
-most-nodes-requires c κs = search needs
+phases-or-requires : tie.Need-phases-or-requires
+phases-or-requires c κs = search needs
 
 nodes-requires : tie.Need-nodes-requires
 nodes-requires c κs = search needs
@@ -22,12 +21,12 @@ nodes-requires c κs = search needs
 enum-known-found : tie.Need-enum-known-found
 enum-known-found c = search needs
 
-least-nodes-requires : tie.Need-least-nodes-requires
-least-nodes-requires c κs = search needs
+phases-or-requires-2 : tie.Need-phases-or-requires-2
+phases-or-requires-2 c κs = search needs
 
 returns : tie.Need-returns
 unfolding nodesParsed
-returns c = simp (sym (c .before .before .before .before .before .before .most-nodes .ensures .0), sym (c .before .before .before .before .before .nodes .ensures) ∙ c .before .before .before .found .given .1, sym (c .before .least-nodes .ensures), lt-leb _ _ (c .if1 .taken))
+returns c = simp (sym (c .before .before .before .before .before .before .phases-or .ensures .0), sym (c .before .before .before .before .before .nodes .ensures) ∙ c .before .before .before .found .given .1, sym (c .before .phases-or2 .ensures .0), lt-leb _ _ (c .if1 .taken))
 
 parse-edges-requires : tie.Need-parse-edges-requires
 parse-edges-requires c κs = search needs
@@ -37,20 +36,20 @@ enum-known-found-2 c = search needs
 
 returns-2 : tie.Need-returns-2
 unfolding nodesParsed
-returns-2 c = simp (sym (c .before .before .before .before .before .before .before .most-nodes .ensures .0), sym (c .before .before .before .before .before .before .nodes .ensures) ∙ c .before .before .before .before .found .given .1, sym (c .before .before .least-nodes .ensures), le-leb _ _ (c .before .if1 .left)) (c .parse-edges .ensures)
+returns-2 c = simp (sym (c .before .before .before .before .before .before .before .phases-or .ensures .0), sym (c .before .before .before .before .before .before .nodes .ensures) ∙ c .before .before .before .before .found .given .1, sym (c .before .before .phases-or2 .ensures .0), le-leb _ _ (c .before .if1 .left)) (c .parse-edges .ensures)
 
 returns-3 : tie.Need-returns-3
 unfolding nodesParsed
-returns-3 c = simp (sym (c .before .before .before .before .most-nodes .ensures .0), sym (c .before .before .before .nodes .ensures) ∙ c .before .found2 .given .1)
+returns-3 c = simp (sym (c .before .before .before .before .phases-or .ensures .0), sym (c .before .before .before .nodes .ensures) ∙ c .before .found2 .given .1)
 
 pub parse-nodes-spec : {M : Type 1} → statement M
 parse-nodes-spec =
     tie.close
     (tie.spec
-    most-nodes-requires
+    phases-or-requires
     nodes-requires
     enum-known-found
-    least-nodes-requires
+    phases-or-requires-2
     returns
     parse-edges-requires
     enum-known-found-2

@@ -2,9 +2,11 @@
 -- Assumes nothing.
 use native.Mathlib.Omega.{arith}
 use mathlib.Core.Path.{refl, sym, _∙_, _≡_}
-use Prim.Native.Nat.{_+_, _≤_}
+use Prim.Native.Nat.{_+_, _*_, _≤_}
 use Rattle.parsing.specs.Section.{repeatedOf}
-use Rattle.parsing.proofs.Steps.Section.{repeated-none, repeated-step}
+use Rattle.parsing.specs.Record.{sameBytes}
+use Rattle.parsing.specs.Search.{any}
+use Rattle.parsing.proofs.Laws.Search.{any-none, any-hit, any-next}
 use Rattle.parsing.proofs.sections.repeated.Statement.{statement}
 use Rattle.parsing.proofs.sections.repeated.Tie as tie
 use Rattle.parsing.proofs.sections.repeated.Reads as reads
@@ -12,12 +14,13 @@ use Rattle.parsing.proofs.sections.repeated.Lts as lts
 use Rattle.parsing.proofs.records.same_bytes.Reads as same-bytes-reads
 
 abbrev Inv-loop : tie.InvT-loop
-Inv-loop file at first n left₀ edge₀ left edge = (repeatedOf file at first n ≡ repeatedOf file at edge left) × (edge + left ≤ at)
+Inv-loop file at first n left₀ edge₀ left edge = (repeatedOf file at first n ≡ any (λ e. sameBytes file (8 * e + 1) (8 * at + 1) 5) left edge) × (edge + left ≤ at)
 
 abbrev μ-loop : tie.MeasureT-loop
 μ-loop file at first n left₀ edge₀ left edge = left
 
 loop-holds : tie.Need-loop-holds Inv-loop μ-loop
+unfolding repeatedOf
 loop-holds c = (refl, (omega arith))
 
 mul-same-bytes : tie.Need-mul-same-bytes Inv-loop μ-loop
@@ -36,7 +39,7 @@ same-bytes-requires : tie.Need-same-bytes-requires Inv-loop μ-loop
 same-bytes-requires c κs = omega arith
 
 returns : tie.Need-returns Inv-loop μ-loop
-returns c = sym (c .before .before .before .loop .inv .0 ∙ repeated-step _ _ _ _ (c .before .before .loop-test .taken) ∙ simp (sym (c .before .same-bytes .ensures) ∙ c .if1 .taken))
+returns c = sym (c .before .before .before .loop .inv .0 ∙ any-hit _ _ _ (c .before .before .loop-test .taken) (sym (c .before .same-bytes .ensures) ∙ c .if1 .taken))
 
 add-edge : tie.Need-add-edge Inv-loop μ-loop
 add-edge c = omega arith
@@ -48,10 +51,10 @@ loop-less : tie.Need-loop-less Inv-loop μ-loop
 loop-less c = omega arith
 
 loop-again : tie.Need-loop-again Inv-loop μ-loop
-loop-again c = (c .before .before .before .loop .inv .0 ∙ repeated-step _ _ _ _ (c .before .before .loop-test .taken) ∙ simp (sym (c .before .same-bytes .ensures) ∙ c .if1 .left), omega arith)
+loop-again c = (c .before .before .before .loop .inv .0 ∙ any-next _ _ _ (c .before .before .loop-test .taken) (sym (c .before .same-bytes .ensures) ∙ c .if1 .left), omega arith)
 
 returns-2 : tie.Need-returns-2 Inv-loop μ-loop
-returns-2 c = sym (c .before .loop .inv .0 ∙ repeated-none _ _ _ _ (c .loop-test .left))
+returns-2 c = sym (c .before .loop .inv .0 ∙ any-none _ _ _ (c .loop-test .left))
 
 pub repeated-spec : {M : Type 1} → statement M
 repeated-spec =

@@ -6,9 +6,9 @@ use native.Mathlib.Omega.{arith}
 use borrow.Author.Tests.{not-true, not-false}
 use lib.ListN.{length}
 use Rattle.parsing.specs.Record.{fieldA}
-use Rattle.reading.specs.Search.{refuseFirst}
+use Rattle.parsing.specs.Search.{refuseFirst}
 use Rattle.reading.specs.Edge.{ruleOf, rulesOf}
-use Rattle.reading.proofs.Steps.Search.{refuse-none, refuse-fails, refuse-next}
+use Rattle.parsing.proofs.Laws.Search.{refuse-none, refuse-fails, refuse-next}
 use Rattle.reading.proofs.Steps.Edge.{edge-fits}
 use Rattle.reading.proofs.edges.rules.Statement.{statement}
 use Rattle.reading.proofs.edges.rules.Tie as tie

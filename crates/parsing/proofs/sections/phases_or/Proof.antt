@@ -1,13 +1,13 @@
--- `parsing::sections::most_nodes` meets its contract, by the test passed.
+-- `parsing::sections::phases_or` meets its contract, by the test passed.
 -- Assumes nothing.
 use native.Mathlib.Omega.{arith}
 use borrow.Author.Tests.{eq-eqb, ne-eqb}
-use Rattle.parsing.specs.Section.{mostNodes}
+use Rattle.parsing.specs.Section.{phasesOr}
 use borrow.Author.Needs.{needs}
-use Rattle.parsing.proofs.sections.most_nodes.Statement.{statement}
-use Rattle.parsing.proofs.sections.most_nodes.Tie as tie
-use Rattle.parsing.proofs.sections.most_nodes.Reads as reads
-use Rattle.parsing.proofs.sections.most_nodes.Lts as lts
+use Rattle.parsing.proofs.sections.phases_or.Statement.{statement}
+use Rattle.parsing.proofs.sections.phases_or.Tie as tie
+use Rattle.parsing.proofs.sections.phases_or.Reads as reads
+use Rattle.parsing.proofs.sections.phases_or.Lts as lts
 use Rattle.parsing.proofs.records.word_at.Reads as word-at-reads
 
 mul-if1 : tie.Need-mul-if1
@@ -29,15 +29,15 @@ word-at-requires : tie.Need-word-at-requires
 word-at-requires c κs = search needs
 
 returns : tie.Need-returns
-unfolding mostNodes
+unfolding phasesOr
 returns c = (simp (eq-eqb _ _ (c .before .if1 .taken)) (c .word-at .ensures .0), c .word-at .ensures .1)
 
 returns-2 : tie.Need-returns-2
-unfolding mostNodes
+unfolding phasesOr
 returns-2 c = (simp (ne-eqb _ _ (c .if1 .left)), omega arith)
 
-pub most-nodes-spec : {M : Type 1} → statement M
-most-nodes-spec =
+pub phases-or-spec : {M : Type 1} → statement M
+phases-or-spec =
     tie.close
     (tie.spec
     mul-if1

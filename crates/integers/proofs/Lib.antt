@@ -1,10 +1,2 @@
-pub mod Parts
-pub mod Bounds
-pub mod OverEnds
-pub mod Floors
-pub mod Digits
-pub mod RoundTrip
-pub mod Equality
-pub mod Examples
-pub mod Elements
-pub mod SignedNeeds
+pub mod Laws
+mod Examples

@@ -14,7 +14,7 @@ use borrow.Author.Tests.{ltb-true, leb-true}
 use lib.ListN.{length}
 use lib.Dec.{ltb, leb, eqb}
 use lib.Signed.{leZ, _≤ℤ_}
-use Rattle.integers.proofs.Parts.{parts-≤, leZ-true}
+use Rattle.integers.proofs.Laws.Parts.{parts-≤, leZ-true}
 use Rattle.parsing.specs.declared.walk.Walked.{Walked}
 use Rattle.parsing.specs.declared.outline.Outline.{Outline}
 use Rattle.parsing.specs.Record.{fieldA, fieldB, fieldC, fieldD, valueB, valueC, zerosOf, sameBytes}

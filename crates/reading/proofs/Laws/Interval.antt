@@ -17,7 +17,7 @@ use borrow.Author.Tests.{ltb-true}
 use lib.Dec.{ltb}
 use Rattle.integers.specs.declared.Interval.{Interval}
 use Rattle.integers.specs.Interval.{inBounds, Bounded}
-use Rattle.integers.proofs.OverEnds.{bounded}
+use Rattle.integers.proofs.Laws.Interval.{bounded}
 use Rattle.parsing.specs.declared.kinds.Form.{Form}
 use Rattle.parsing.specs.declared.kinds.Form.the-variants.{Constant, Variable, Arithmetic, Indicator, Literal, Negation, Connective, Comparison, Unfit}
 use Rattle.parsing.specs.declared.walk.Walked.{Walked}

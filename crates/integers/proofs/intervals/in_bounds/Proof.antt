@@ -5,7 +5,7 @@ use mathlib.Core.Bool.{Bool}
 use mir.Syntax.{w64}
 use lib.IntN.{ℤ, pos, negsuc}
 use Rattle.integers.specs.Interval.{between, inBounds}
-use Rattle.integers.proofs.Parts.{back}
+use Rattle.integers.proofs.Laws.Parts.{back}
 use Rattle.integers.proofs.intervals.in_bounds.Statement.{statement}
 use Rattle.integers.proofs.intervals.in_bounds.Tie as tie
 

@@ -2,7 +2,7 @@
 -- Assumes nothing.
 use mathlib.Core.Path.{_∙_}
 use mir.Syntax.{w16}
-use Rattle.integers.proofs.Parts.{back}
+use Rattle.integers.proofs.Laws.Parts.{back}
 use borrow.Author.Needs.{needs}
 use Rattle.parsing.proofs.records.value_at.Statement.{statement}
 use Rattle.parsing.proofs.records.value_at.Tie as tie

@@ -3,7 +3,7 @@
 use borrow.Author.Tests.{not-true, not-false}
 use mathlib.Core.Path.{sym, _∙_}
 use mir.Syntax.{w16}
-use Rattle.integers.proofs.Parts.{back}
+use Rattle.integers.proofs.Laws.Parts.{back}
 use Rattle.parsing.specs.Section.{variableFields}
 use borrow.Author.Needs.{needs}
 use Rattle.parsing.proofs.sections.variable_fields.Statement.{statement}

@@ -6,7 +6,7 @@ use Rattle.reading.proofs.Steps.Interval.{leaf-other}
 use Prim.Native.Nat.{_+_, _*_}
 use Rattle.reading.specs.Interval.{leafOf}
 use mir.Syntax.{w16, w64}
-use Rattle.integers.proofs.Parts.{back}
+use Rattle.integers.proofs.Laws.Parts.{back}
 use borrow.Author.Needs.{needs}
 use Rattle.reading.proofs.intervals.leaf.Statement.{statement}
 use Rattle.reading.proofs.intervals.leaf.Tie as tie

@@ -6,8 +6,8 @@ use native.Mathlib.Omega.{arith}
 use mir.Syntax.{w16}
 use mir.Val.{SFits}
 use Rattle.integers.specs.Radix.{offsetOf}
-use Rattle.integers.proofs.Parts.{back}
-use Rattle.integers.proofs.Digits.{offset-small}
+use Rattle.integers.proofs.Laws.Parts.{back}
+use Rattle.integers.proofs.Laws.Radix.{offset-small}
 use Rattle.parsing.specs.Record.{valueB, valueC}
 use Rattle.reading.specs.States.{sizeOf}
 use borrow.Author.Needs.{needs}

@@ -6,7 +6,7 @@ use lib.Signed.{_≤ℤ_}
 use mir.Syntax.{w16}
 use mir.Val.{SFits}
 use Rattle.integers.specs.Radix.{at, offsetOf}
-use Rattle.integers.proofs.Parts.{ints, add-parts, sub-parts, one-part, abs-parts}
+use Rattle.integers.proofs.Laws.Parts.{ints, add-parts, sub-parts, one-part, abs-parts}
 
 module _ (low : ℤ) where
   pub at-above : (k : ℕ) → low ≤ℤ at low k

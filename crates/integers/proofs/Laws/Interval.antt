@@ -9,7 +9,7 @@ use lib.IntN.{ℤ, pos, negsuc, negℤ, _+ℤ_, _-ℤ_, _*ℤ_, *ℤ-comm}
 use lib.Signed.{leZ, _≤ℤ_, ≤ℤ-refl}
 use Rattle.integers.specs.declared.Interval.{Interval}
 use Rattle.integers.specs.Interval.{In, minZ, maxZ, around, overEnds, between, bounds, inBounds, Bounded}
-use Rattle.integers.proofs.Parts.{ints, ≤ℤ-trans, by-test, ≤-parts, posPart, negPart, one-part, add-parts, sub-parts, mul-parts, leZ-true, leZ-false}
+use Rattle.integers.proofs.Laws.Parts.{ints, ≤ℤ-trans, by-test, ≤-parts, posPart, negPart, one-part, add-parts, sub-parts, mul-parts, leZ-true, leZ-false}
 
 -- ---- the lesser and the greater of two
 

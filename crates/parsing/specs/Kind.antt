@@ -1,5 +1,5 @@
 -- The kinds of record that expressions are made of. "The kind byte alone decides how many operands follow."
-use Prim.Native.Nat.{ℕ, _*_}
+use Prim.Native.Nat.{ℕ}
 use mathlib.Core.Bool.{cond, _&&_}
 use mathlib.Core.List.{List}
 use lib.Dec.{leb}

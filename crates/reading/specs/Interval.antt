@@ -1,6 +1,6 @@
 -- The interval of a number expression, and refusal 8: "An interval goes out of bounds, operands judged first, left before right .. it is the record whose
 -- own interval goes out, expressions taken in file order."
-use Prim.Native.Nat.{ℕ, zero, suc, _+_, _*_, _/_}
+use Prim.Native.Nat.{ℕ, zero, suc, _+_, _/_}
 use mathlib.Core.Bool.{cond}
 use mathlib.Core.List.{List}
 use lib.ListN.{length}

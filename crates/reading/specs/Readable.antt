@@ -10,7 +10,7 @@ use Rattle.parsing.specs.declared.outline.Outline.{Outline}
 use Rattle.parsing.specs.Record.{kindAt, fieldA, fieldB, fieldC, fieldD, kindIs}
 use Rattle.parsing.specs.Kind.{number, truth, formAt, signatureAt}
 use Rattle.parsing.specs.Walk.{expressionFields, inSequence, walkOf, truthOf}
-use Rattle.parsing.specs.Section.{transitionFields, transitionOf, nodeOf}
+use Rattle.parsing.specs.Section.{transitionOf, nodeOf}
 use Rattle.reading.specs.declared.intervals.Analysis.{Analysis}
 use Rattle.reading.specs.Interval.{unit, leafOf, joinOf, analysisOf}
 use Rattle.reading.specs.Edge.{justOf}

@@ -5,11 +5,6 @@ use Rattle.exports.specs.Answer.{answerOf}
 use borrow.Author.Needs.{needs}
 use Rattle.exports.proofs.hurmuldeg_read.Statement.{statement}
 use Rattle.exports.proofs.hurmuldeg_read.Tie as tie
-use Rattle.exports.proofs.hurmuldeg_read.Reads as reads
-use Rattle.exports.proofs.hurmuldeg_read.Lts as lts
-use Rattle.exports.proofs.readable_answer.Reads as readable-answer-reads
-use Rattle.exports.proofs.refused_answer.Reads as refused-answer-reads
-use Rattle.reading.proofs.read.Reads as read-reads
 
 read-requires : tie.Need-read-requires
 read-requires c κs = search needs

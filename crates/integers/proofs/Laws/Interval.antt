@@ -1,15 +1,15 @@
 -- Interval arithmetic is sound: a sum, a difference and a product of numbers lies in the interval over the operands' ends.
 -- One argument for all three: an operation that, in each operand, keeps what it gives between what it gives at the ends. Assumes nothing.
-use mathlib.Core.Path.{_≡_, refl, sym, ap, _∙_, subst}
+use mathlib.Core.Path.{_≡_, refl}
 use mathlib.Core.Logic.{_⊎_, inl, inr}
-use mathlib.Core.Bool.{Bool, true, false, not, cond, _&&_}
-use Prim.Native.Nat.{ℕ, zero, suc, _+_, _*_, _≤_, _<_}
+use mathlib.Core.Bool.{Bool, true, false, cond, _&&_}
+use Prim.Native.Nat.{ℕ, suc}
 use native.Mathlib.Nat.{mul-le-mul-left}
-use lib.IntN.{ℤ, pos, negsuc, negℤ, _+ℤ_, _-ℤ_, _*ℤ_, *ℤ-comm}
-use lib.Signed.{leZ, _≤ℤ_, ≤ℤ-refl}
+use lib.IntN.{ℤ, pos, negsuc, _+ℤ_, _-ℤ_, _*ℤ_, *ℤ-comm}
+use lib.Signed.{leZ, _≤ℤ_}
 use Rattle.integers.specs.declared.Interval.{Interval}
 use Rattle.integers.specs.Interval.{In, minZ, maxZ, around, overEnds, between, bounds, inBounds, Bounded}
-use Rattle.integers.proofs.Laws.Parts.{ints, ≤ℤ-trans, by-test, ≤-parts, posPart, negPart, one-part, add-parts, sub-parts, mul-parts, leZ-true, leZ-false}
+use Rattle.integers.proofs.Laws.Parts.{ints, ≤ℤ-trans, by-test, ≤-parts, add-parts, sub-parts, mul-parts}
 
 -- ---- the lesser and the greater of two
 

@@ -1,10 +1,10 @@
 -- What is known of a file that parses: each section with its count and its end.
 --     parses         the sections, from the outline answered
 -- Assumes nothing.
-use mathlib.Core.Path.{_≡_, refl, sym, ap, subst, _∙_}
+use mathlib.Core.Path.{_≡_, refl, ap, subst, _∙_}
 use mathlib.Core.Bool.{Bool, true, false, cond, _&&_, and-eq-true-iff}
 use mathlib.Core.List.{List}
-use Prim.Native.Nat.{ℕ, _+_, _-_, _*_, _/_, _%_, _<_, _≤_}
+use Prim.Native.Nat.{ℕ, _+_, _/_, _%_, _≤_}
 use native.Mathlib.Omega.{arith}
 use borrow.Author.Tests.{leb-true, eqb-true}
 use lib.ListN.{length}
@@ -15,10 +15,9 @@ use Rattle.parsing.specs.declared.sections.Section.{Section}
 use Rattle.parsing.specs.declared.sections.Section.the-variants.{Items}
 use Rattle.parsing.specs.declared.outline.Outline.{Outline}
 use Rattle.parsing.specs.declared.outline.Parsed.{Parsed}
-use Rattle.parsing.specs.Walk.{inSequence}
+use Rattle.parsing.specs.Walk.{inSequence, truthOf}
 use Rattle.parsing.specs.Record.{kindIs}
 use Rattle.parsing.specs.Section.{noFields, variableFields, propertyFields, variablesOf, transitionsOf, expressionsOf, phasesOr, nodesOf, edgesOf}
-use Rattle.parsing.specs.Walk.{truthOf}
 use Rattle.parsing.proofs.Laws.Section.{items-single}
 use Rattle.parsing.specs.Outline.{andParse, andSection, edgesParsed, nodesParsed, propertyParsed, transitionsParsed, startParsed, parsedOf}
 

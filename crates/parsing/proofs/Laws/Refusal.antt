@@ -1,7 +1,7 @@
 -- A refusal of parsing has a number of document 01, and its place is a record of the file or the record count, so at most 4,096.
 --     parse-refuses     of the whole file
 -- Assumes nothing.
-use mathlib.Core.Path.{_≡_, refl, subst}
+use mathlib.Core.Path.{_≡_, refl, sym, subst}
 use mathlib.Core.Bool.{Bool, true, false, cond, _&&_, and-eq-true-iff}
 use mathlib.Core.List.{List}
 use Prim.Native.Nat.{ℕ, zero, suc, _+_, _-_, _/_, _%_, _<_, _≤_}
@@ -17,29 +17,47 @@ use Rattle.parsing.specs.Kind.{number, truth, signatureAt}
 use Rattle.parsing.specs.Walk.{expressionFields, andThen, inSequence, recordThen, walkOf, truthOf}
 use Rattle.parsing.specs.Section.{noFields, variableFields, transitionFields, assignmentFields, propertyFields, edgeFields, andItems, itemsOf, variablesOf, assignmentsOf, transitionOf, transitionsOf, expressionsOf, phasesOr, nodeOf, nodesOf, repeatedOf, edgesOf}
 use Rattle.parsing.specs.Outline.{andParse, andSection, edgesParsed, nodesParsed, propertyParsed, transitionsParsed, startParsed, parsedOf}
-use Rattle.parsing.specs.Refusal.{Refusal, Refuses}
-use Rattle.parsing.proofs.Laws.Walk.{walk-bound, sequence-bound}
+use Rattle.parsing.specs.Refusal.{Refuses}
+use Rattle.parsing.proofs.Laws.Walk.{walk-bound}
 use Rattle.parsing.proofs.Laws.Section.{kind-here, transition-bound, items-through, sequence-through}
 
 -- ---- answers of any type
-pub by-test : {A : Type 0} (refuse : ℕ → ℕ → A) (most : ℕ) (b : Bool) (x y : A) → (b ≡ true → Refuses refuse most x) → (b ≡ false → Refuses refuse most y)
-    → Refuses refuse most (cond b x y)
-by-test refuse most true x y h k = h refl
-by-test refuse most false x y h k = k refl
+-- the refusals of a type of answers differ in number or place
+pub record Refusing {A : Type 0} (refuse : ℕ → ℕ → A) : Type 0 where
+  pub same : (n p m q : ℕ) → refuse n p ≡ refuse m q → (n ≡ m) × (p ≡ q)
 
--- a wider bound of the place
-pub refuses-more : {A : Type 0} (refuse : ℕ → ℕ → A) (few most : ℕ) (x : A) → few ≤ most → Refuses refuse few x → Refuses refuse most x
-refuses-more refuse few most x l h number place e = let r = h number place e in record { from = r .from; to = r .to; within = omega arith }
+pub walked : Refusing Walked.Refused
+walked = record { same = λ n p m q e. (cc, cc) }
 
-module _ (most n p : ℕ) (from : 2 ≤ n) (to : n ≤ 10) (within : p ≤ most) where
-  pub walked-refused : Refuses Walked.Refused most (Walked.Refused n p)
-  walked-refused number place e = let a : n ≡ number = cc in let b : p ≡ place = cc in record { from = omega arith; to = omega arith; within = omega arith }
+section : Refusing Section.Refused
+section = record { same = λ n p m q e. (cc, cc) }
 
-  pub section-refused : Refuses Section.Refused most (Section.Refused n p)
-  section-refused number place e = let a : n ≡ number = cc in let b : p ≡ place = cc in record { from = omega arith; to = omega arith; within = omega arith }
+parsed : Refusing Parsed.Refused
+parsed = record { same = λ n p m q e. (cc, cc) }
 
-  pub parsed-refused : Refuses Parsed.Refused most (Parsed.Refused n p)
-  parsed-refused number place e = let a : n ≡ number = cc in let b : p ≡ place = cc in record { from = omega arith; to = omega arith; within = omega arith }
+module _ {A : Type 0} {refuse : ℕ → ℕ → A} where
+  pub refused : Refusing refuse → (most n p : ℕ) → 2 ≤ n → n ≤ 10 → p ≤ most → Refuses refuse most (refuse n p)
+  refused r most n p from to within number place e = let z = r .same n p number place e in record { from = omega arith; to = omega arith; within = omega arith }
+
+  pub by-test : (most : ℕ) (b : Bool) (x y : A) → (b ≡ true → Refuses refuse most x) → (b ≡ false → Refuses refuse most y) → Refuses refuse most (cond b x y)
+  by-test most true x y h k = h refl
+  by-test most false x y h k = k refl
+
+  -- a wider bound of the place
+  pub refuses-more : (few most : ℕ) (x : A) → few ≤ most → Refuses refuse few x → Refuses refuse most x
+  refuses-more few most x l h number place e = let r = h number place e in record { from = r .from; to = r .to; within = omega arith }
+
+  -- what goes on behind a walk, or keeps its refusal
+  pub then-refuses : Refusing refuse → (go-on : Walked → (ℕ → A) → A) → ((x : ℕ) (next : ℕ → A) → go-on (Walked.End x) next ≡ next x)
+      → ((n p : ℕ) (next : ℕ → A) → go-on (Walked.Refused n p) next ≡ refuse n p) → (most : ℕ) (w : Walked) → Refuses Walked.Refused most w → (next : ℕ → A)
+      → ((x : ℕ) → w ≡ Walked.End x → Refuses refuse most (next x)) → Refuses refuse most (go-on w next)
+  then-refuses r go-on ends keeps most w h next k = by w refl
+    where
+      by : (v : Walked) → w ≡ v → Refuses refuse most (go-on v next)
+      by (Walked.End x) is = subst (Refuses refuse most) (sym (ends x next)) (k x is)
+      by (Walked.Refused n p) is =
+          let q = h n p is in
+          subst (Refuses refuse most) (sym (keeps n p next)) (refused r most n p (q .from) (q .to) (q .within))
 
 pub walked-ends : (most end : ℕ) → Refuses Walked.Refused most (Walked.End end)
 walked-ends most end number place e = let z : _≡_ {A = ℕ} 0 1 = cc in absurd (omega arith)
@@ -47,42 +65,32 @@ walked-ends most end number place e = let z : _≡_ {A = ℕ} 0 1 = cc in absurd
 section-ends : (most n end : ℕ) → Refuses Section.Refused most (Section.Items n end)
 section-ends most n end number place e = let z : _≡_ {A = ℕ} 0 1 = cc in absurd (omega arith)
 
-module _ (most : ℕ) (w : Walked) (h : Refuses Walked.Refused most w) where
-  then-refuses : (next : ℕ → Walked) → ((x : ℕ) → w ≡ Walked.End x → Refuses Walked.Refused most (next x)) → Refuses Walked.Refused most (andThen w next)
-  then-refuses next k = go w refl h k
-    where
-      go : (v : Walked) → w ≡ v → Refuses Walked.Refused most v → ((x : ℕ) → w ≡ Walked.End x → Refuses Walked.Refused most (next x)) → Refuses Walked.Refused most (andThen v next)
-      go (Walked.End x) is h k = k x is
-      go (Walked.Refused n p) is h k = h
+walk-then : (most : ℕ) (w : Walked) → Refuses Walked.Refused most w → (next : ℕ → Walked) → ((x : ℕ) → w ≡ Walked.End x → Refuses Walked.Refused most (next x))
+    → Refuses Walked.Refused most (andThen w next)
+walk-then = then-refuses walked andThen (λ x next. refl) (λ n p next. refl)
 
-  items-refuses : (next : ℕ → Section) → ((x : ℕ) → w ≡ Walked.End x → Refuses Section.Refused most (next x)) → Refuses Section.Refused most (andItems w next)
-  items-refuses next k = go w refl h k
-    where
-      go : (v : Walked) → w ≡ v → Refuses Walked.Refused most v → ((x : ℕ) → w ≡ Walked.End x → Refuses Section.Refused most (next x)) → Refuses Section.Refused most (andItems v next)
-      go (Walked.End x) is h k = k x is
-      go (Walked.Refused n p) is h k = let r = h n p refl in section-refused most n p (r .from) (r .to) (r .within)
+items-then : (most : ℕ) (w : Walked) → Refuses Walked.Refused most w → (next : ℕ → Section) → ((x : ℕ) → w ≡ Walked.End x → Refuses Section.Refused most (next x))
+    → Refuses Section.Refused most (andItems w next)
+items-then = then-refuses section andItems (λ x next. refl) (λ n p next. refl)
 
-  parse-then : (next : ℕ → Parsed) → ((x : ℕ) → w ≡ Walked.End x → Refuses Parsed.Refused most (next x)) → Refuses Parsed.Refused most (andParse w next)
-  parse-then next k = go w refl h k
-    where
-      go : (v : Walked) → w ≡ v → Refuses Walked.Refused most v → ((x : ℕ) → w ≡ Walked.End x → Refuses Parsed.Refused most (next x)) → Refuses Parsed.Refused most (andParse v next)
-      go (Walked.End x) is h k = k x is
-      go (Walked.Refused n p) is h k = let r = h n p refl in parsed-refused most n p (r .from) (r .to) (r .within)
+parse-then : (most : ℕ) (w : Walked) → Refuses Walked.Refused most w → (next : ℕ → Parsed) → ((x : ℕ) → w ≡ Walked.End x → Refuses Parsed.Refused most (next x))
+    → Refuses Parsed.Refused most (andParse w next)
+parse-then = then-refuses parsed andParse (λ x next. refl) (λ n p next. refl)
 
 section-then : (most : ℕ) (s : Section) → Refuses Section.Refused most s → (next : ℕ → ℕ → Parsed) → ((n x : ℕ) → s ≡ Section.Items n x → Refuses Parsed.Refused most (next n x))
     → Refuses Parsed.Refused most (andSection s next)
-section-then most s h next k = go s refl h k
+section-then most s h next k = by s refl
   where
-    go : (v : Section) → s ≡ v → Refuses Section.Refused most v → ((n x : ℕ) → s ≡ Section.Items n x → Refuses Parsed.Refused most (next n x)) → Refuses Parsed.Refused most (andSection v next)
-    go (Section.Items n x) is h k = k n x is
-    go (Section.Refused n p) is h k = let r = h n p refl in parsed-refused most n p (r .from) (r .to) (r .within)
+    by : (v : Section) → s ≡ v → Refuses Parsed.Refused most (andSection v next)
+    by (Section.Items n x) is = k n x is
+    by (Section.Refused n p) is = let q = h n p is in refused parsed most n p (q .from) (q .to) (q .within)
 
 -- ---- the walk
 module _ (most : ℕ) (part : ℕ → Walked) (h : (i : ℕ) → i ≤ most → Refuses Walked.Refused most (part i)) (b : (i e : ℕ) → part i ≡ Walked.End e → e ≤ most) where
   sequence-refuses : (n at : ℕ) → at ≤ most → Refuses Walked.Refused most (inSequence part n at)
   unfolding inSequence
   sequence-refuses zero at l = walked-ends most at
-  sequence-refuses (suc n) at l = then-refuses most (part at) (h at l) (inSequence part n) (λ x e. sequence-refuses n x (b at x e))
+  sequence-refuses (suc n) at l = walk-then most (part at) (h at l) (inSequence part n) (λ x e. sequence-refuses n x (b at x e))
 
 module _ (file : List ℕ) (vars : ℕ) where
   abbrev records : ℕ
@@ -91,16 +99,16 @@ module _ (file : List ℕ) (vars : ℕ) where
   record-refuses : (want at : ℕ) (rest : Walked) → at ≤ records → (at < records → Refuses Walked.Refused records rest) → Refuses Walked.Refused records (recordThen file vars want at rest)
   unfolding recordThen
   record-refuses want at rest l h =
-      by-test Walked.Refused records (ltb at records && eqb (signatureAt file at .sort) want) (cond (expressionFields file vars at) rest (Walked.Refused 4 at)) (Walked.Refused 3 at)
+      by-test records (ltb at records && eqb (signatureAt file at .sort) want) (cond (expressionFields file vars at) rest (Walked.Refused 4 at)) (Walked.Refused 3 at)
       (λ t.
-      by-test Walked.Refused records (expressionFields file vars at) rest (Walked.Refused 4 at)
+      by-test records (expressionFields file vars at) rest (Walked.Refused 4 at)
       (λ f. h (ltb-true at records (and-eq-true-iff (ltb at records) (eqb (signatureAt file at .sort) want) .0 t .0)))
-      (λ f. walked-refused records 4 at (omega arith) (omega arith) l))
-      (λ t. walked-refused records 3 at (omega arith) (omega arith) l)
+      (λ f. refused walked records 4 at (omega arith) (omega arith) l))
+      (λ t. refused walked records 3 at (omega arith) (omega arith) l)
 
   walk-refuses : (levels want at : ℕ) → at ≤ records → Refuses Walked.Refused records (walkOf file vars levels want at)
   unfolding walkOf
-  walk-refuses zero want at l = record-refuses want at (Walked.Refused 5 at) l (λ m. walked-refused records 5 at (omega arith) (omega arith) l)
+  walk-refuses zero want at l = record-refuses want at (Walked.Refused 5 at) l (λ m. refused walked records 5 at (omega arith) (omega arith) l)
   walk-refuses (suc levels) want at l =
       let over = signatureAt file at .over in
       record-refuses want at (inSequence (walkOf file vars levels over) (signatureAt file at .operands) (at + 1)) l
@@ -112,19 +120,19 @@ module _ (file : List ℕ) (vars : ℕ) where
     section-refuses : (left n at : ℕ) → at ≤ records → Refuses Section.Refused records (itemsOf file kind fields item left n at)
     unfolding itemsOf
     section-refuses zero n at l =
-        by-test Section.Refused records (kindIs file kind at) (cond (fields at) (Section.Refused 5 at) (Section.Refused 4 at)) (Section.Items n at)
+        by-test records (kindIs file kind at) (cond (fields at) (Section.Refused 5 at) (Section.Refused 4 at)) (Section.Items n at)
         (λ k.
-        by-test Section.Refused records (fields at) (Section.Refused 5 at) (Section.Refused 4 at)
-        (λ f. section-refused records 5 at (omega arith) (omega arith) l)
-        (λ f. section-refused records 4 at (omega arith) (omega arith) l))
+        by-test records (fields at) (Section.Refused 5 at) (Section.Refused 4 at)
+        (λ f. refused section records 5 at (omega arith) (omega arith) l)
+        (λ f. refused section records 4 at (omega arith) (omega arith) l))
         (λ k. section-ends records n at)
     section-refuses (suc left) n at l =
         let next = itemsOf file kind fields item left (n + 1) in
-        by-test Section.Refused records (kindIs file kind at) (cond (fields at) (andItems (item at) next) (Section.Refused 4 at)) (Section.Items n at)
+        by-test records (kindIs file kind at) (cond (fields at) (andItems (item at) next) (Section.Refused 4 at)) (Section.Items n at)
         (λ k.
-        by-test Section.Refused records (fields at) (andItems (item at) next) (Section.Refused 4 at)
-        (λ f. items-refuses records (item at) (h at (kind-here file kind at k)) next (λ x e. section-refuses left (n + 1) x (b at x e (kind-here file kind at k))))
-        (λ f. section-refused records 4 at (omega arith) (omega arith) l))
+        by-test records (fields at) (andItems (item at) next) (Section.Refused 4 at)
+        (λ f. items-then records (item at) (h at (kind-here file kind at k)) next (λ x e. section-refuses left (n + 1) x (b at x e (kind-here file kind at k))))
+        (λ f. refused section records 4 at (omega arith) (omega arith) l))
         (λ k. section-ends records n at)
 
     -- a section that is counted ends within the file
@@ -135,32 +143,32 @@ module _ (file : List ℕ) (vars : ℕ) where
   assignments-refuses : (left : ℕ) (marks : List ℕ) (at : ℕ) → at ≤ records → Refuses Walked.Refused records (assignmentsOf file vars left marks at)
   unfolding assignmentsOf
   assignments-refuses zero marks at l =
-      by-test Walked.Refused records (kindIs file 0x04 at) (cond (assignmentFields file vars at) (Walked.Refused 6 at) (Walked.Refused 4 at)) (Walked.End at)
+      by-test records (kindIs file 0x04 at) (cond (assignmentFields file vars at) (Walked.Refused 6 at) (Walked.Refused 4 at)) (Walked.End at)
       (λ k.
-      by-test Walked.Refused records (assignmentFields file vars at) (Walked.Refused 6 at) (Walked.Refused 4 at)
-      (λ f. walked-refused records 6 at (omega arith) (omega arith) l)
-      (λ f. walked-refused records 4 at (omega arith) (omega arith) l))
+      by-test records (assignmentFields file vars at) (Walked.Refused 6 at) (Walked.Refused 4 at)
+      (λ f. refused walked records 6 at (omega arith) (omega arith) l)
+      (λ f. refused walked records 4 at (omega arith) (omega arith) l))
       (λ k. walked-ends records at)
   assignments-refuses (suc left) marks at l =
       let next = assignmentsOf file vars left (set marks (fieldA file at) 1) in
       let value = walkOf file vars 16 number (at + 1) in
       let free = eqb (getD marks (fieldA file at) 0) 0 in
-      by-test Walked.Refused records (kindIs file 0x04 at) (cond (assignmentFields file vars at) (cond free (andThen value next) (Walked.Refused 6 at)) (Walked.Refused 4 at)) (Walked.End at)
+      by-test records (kindIs file 0x04 at) (cond (assignmentFields file vars at) (cond free (andThen value next) (Walked.Refused 6 at)) (Walked.Refused 4 at)) (Walked.End at)
       (λ k.
-      by-test Walked.Refused records (assignmentFields file vars at) (cond free (andThen value next) (Walked.Refused 6 at)) (Walked.Refused 4 at)
+      by-test records (assignmentFields file vars at) (cond free (andThen value next) (Walked.Refused 6 at)) (Walked.Refused 4 at)
       (λ f.
-      by-test Walked.Refused records free (andThen value next) (Walked.Refused 6 at)
+      by-test records free (andThen value next) (Walked.Refused 6 at)
       (λ d.
-      then-refuses records value (walk-refuses 16 number (at + 1) (let z = kind-here file 0x04 at k in omega arith)) next
+      walk-then records value (walk-refuses 16 number (at + 1) (let z = kind-here file 0x04 at k in omega arith)) next
       (λ x e. assignments-refuses left (set marks (fieldA file at) 1) x (walk-bound file vars 16 number (at + 1) x e .1)))
-      (λ d. walked-refused records 6 at (omega arith) (omega arith) l))
-      (λ f. walked-refused records 4 at (omega arith) (omega arith) l))
+      (λ d. refused walked records 6 at (omega arith) (omega arith) l))
+      (λ f. refused walked records 4 at (omega arith) (omega arith) l))
       (λ k. walked-ends records at)
 
   transition-refuses : (at : ℕ) → at < records → Refuses Walked.Refused records (transitionOf file vars at)
   unfolding transitionOf
   transition-refuses at l =
-      then-refuses records (walkOf file vars 16 truth (at + 1)) (walk-refuses 16 truth (at + 1) (omega arith)) (assignmentsOf file vars 12 (replicate 12 0))
+      walk-then records (walkOf file vars 16 truth (at + 1)) (walk-refuses 16 truth (at + 1) (omega arith)) (assignmentsOf file vars 12 (replicate 12 0))
       (λ x e. assignments-refuses 12 (replicate 12 0) x (walk-bound file vars 16 truth (at + 1) x e .1))
 
   node-refuses : (at : ℕ) → at < records → Refuses Walked.Refused records (nodeOf file vars at)
@@ -179,8 +187,8 @@ module _ (file : List ℕ) where
 
   edge-refuses : (first at : ℕ) → at < count → Refuses Walked.Refused count (edge first at)
   edge-refuses first at l =
-      by-test Walked.Refused count (repeatedOf file at first (at - first)) (Walked.Refused 6 at) (Walked.End (at + 1))
-      (λ r. walked-refused count 6 at (omega arith) (omega arith) (omega arith)) (λ r. walked-ends count (at + 1))
+      by-test count (repeatedOf file at first (at - first)) (Walked.Refused 6 at) (Walked.End (at + 1))
+      (λ r. refused walked count 6 at (omega arith) (omega arith) (omega arith)) (λ r. walked-ends count (at + 1))
 
   edge-within : (first at e : ℕ) → edge first at ≡ Walked.End e → at < count → e ≤ count
   edge-within first at e q l = go (repeatedOf file at first (at - first)) q
@@ -196,10 +204,10 @@ module _ (file : List ℕ) where
       (section-refuses file vars 0x07 (edgeFields file transitions nodes) (edge at) (edge-refuses at) (edge-within at) 512 0 at l)
       (λ edges end. cond (eqb end count) (Parsed.Whole (record { vars = vars; transition = transition; transitions = transitions; property = property; node = node; nodes = nodes; edge = at; edges = edges })) (Parsed.Refused 3 end))
       (λ n x e.
-      by-test Parsed.Refused count (eqb x count) (Parsed.Whole (record { vars = vars; transition = transition; transitions = transitions; property = property; node = node; nodes = nodes; edge = at; edges = n })) (Parsed.Refused 3 x)
+      by-test count (eqb x count) (Parsed.Whole (record { vars = vars; transition = transition; transitions = transitions; property = property; node = node; nodes = nodes; edge = at; edges = n })) (Parsed.Refused 3 x)
       (λ t number place q. let z : _≡_ {A = ℕ} 0 1 = cc in absurd (omega arith))
       (λ t.
-      parsed-refused count 3 x (omega arith) (omega arith)
+      refused parsed count 3 x (omega arith) (omega arith)
       (section-within file vars 0x07 (edgeFields file transitions nodes) (edge at) (edge-refuses at) (edge-within at) 512 0 at n x l e)))
 
   nodes-refuses : (vars transition transitions property at : ℕ) → at ≤ count → Right (nodesParsed file vars transition transitions property at)
@@ -211,18 +219,18 @@ module _ (file : List ℕ) where
       (λ nodes edge. cond (leb (phasesOr file property 1) nodes) (edgesParsed file vars transition transitions property at nodes edge) (Parsed.Refused 3 edge))
       (λ n x e.
       let m = section-within file vars 0x06 (noFields file) (nodeOf file vars) (node-refuses file vars) ends most 0 at n x l e in
-      by-test Parsed.Refused count (leb (phasesOr file property 1) n) (edgesParsed file vars transition transitions property at n x) (Parsed.Refused 3 x)
+      by-test count (leb (phasesOr file property 1) n) (edgesParsed file vars transition transitions property at n x) (Parsed.Refused 3 x)
       (λ t. edges-refuses vars transition transitions property at n x m)
-      (λ t. parsed-refused count 3 x (omega arith) (omega arith) m))
+      (λ t. refused parsed count 3 x (omega arith) (omega arith) m))
 
   property-refuses : (vars transition transitions at : ℕ) → at ≤ count → Right (propertyParsed file vars transition transitions at)
   unfolding propertyParsed
   property-refuses vars transition transitions at l =
       let claims = inSequence (truthOf file vars) (expressionsOf file at) (at + 1) in
       let rest = andParse claims (nodesParsed file vars transition transitions at) in
-      by-test Parsed.Refused count (kindIs file 0x05 at) (cond (propertyFields file at) rest (Parsed.Refused 4 at)) (Parsed.Refused 3 at)
+      by-test count (kindIs file 0x05 at) (cond (propertyFields file at) rest (Parsed.Refused 4 at)) (Parsed.Refused 3 at)
       (λ k.
-      by-test Parsed.Refused count (propertyFields file at) rest (Parsed.Refused 4 at)
+      by-test count (propertyFields file at) rest (Parsed.Refused 4 at)
       (λ f.
       let m : at + 1 ≤ count = let z = kind-here file 0x05 at k in omega arith in
       let ends : (i e : ℕ) → truthOf file vars i ≡ Walked.End e → e ≤ count = λ i e q. walk-bound file vars 16 truth i e q .1 in
@@ -231,8 +239,8 @@ module _ (file : List ℕ) where
       (λ x e.
       nodes-refuses vars transition transitions at x
       (sequence-through (truthOf file vars) (λ i. i ≤ count) (λ i y q p. ends i y q) x (expressionsOf file at) (at + 1) e m)))
-      (λ f. parsed-refused count 4 at (omega arith) (omega arith) l))
-      (λ k. parsed-refused count 3 at (omega arith) (omega arith) l)
+      (λ f. refused parsed count 4 at (omega arith) (omega arith) l))
+      (λ k. refused parsed count 3 at (omega arith) (omega arith) l)
 
   transitions-refuses : (vars at : ℕ) → at ≤ count → Right (transitionsParsed file vars at)
   unfolding transitionsParsed transitionsOf
@@ -247,15 +255,15 @@ module _ (file : List ℕ) where
   unfolding startParsed
   start-refuses vars at l =
       let rest = andParse (truthOf file vars (at + 1)) (transitionsParsed file vars) in
-      by-test Parsed.Refused count (leb 1 vars && kindIs file 0x02 at) (cond (noFields file at) rest (Parsed.Refused 4 at)) (Parsed.Refused 3 at)
+      by-test count (leb 1 vars && kindIs file 0x02 at) (cond (noFields file at) rest (Parsed.Refused 4 at)) (Parsed.Refused 3 at)
       (λ k.
-      by-test Parsed.Refused count (noFields file at) rest (Parsed.Refused 4 at)
+      by-test count (noFields file at) rest (Parsed.Refused 4 at)
       (λ f.
       let m : at + 1 ≤ count = let z = kind-here file 0x02 at (and-eq-true-iff (leb 1 vars) (kindIs file 0x02 at) .0 k .1) in omega arith in
       parse-then count (truthOf file vars (at + 1)) (walk-refuses file vars 16 truth (at + 1) m) (transitionsParsed file vars)
       (λ x e. transitions-refuses vars x (walk-bound file vars 16 truth (at + 1) x e .1)))
-      (λ f. parsed-refused count 4 at (omega arith) (omega arith) l))
-      (λ k. parsed-refused count 3 at (omega arith) (omega arith) l)
+      (λ f. refused parsed count 4 at (omega arith) (omega arith) l))
+      (λ k. refused parsed count 3 at (omega arith) (omega arith) l)
 
   pub parse-refuses : Refuses Parsed.Refused 4096 (parsedOf file)
   unfolding parsedOf variablesOf
@@ -263,10 +271,10 @@ module _ (file : List ℕ) where
       let variable : ℕ → Walked = λ at. Walked.End (at + 1) in
       let right : (i : ℕ) → i < count → Refuses Walked.Refused count (variable i) = λ i l. walked-ends count (i + 1) in
       let ends : (i e : ℕ) → variable i ≡ Walked.End e → i < count → e ≤ count = λ i e q l. let z : i + 1 ≡ e = cc in omega arith in
-      by-test Parsed.Refused 4096 (eqb (length file % 8) 0 && leb (length file) 32768) (andSection (variablesOf file) (startParsed file)) (Parsed.Refused 2 0)
+      by-test 4096 (eqb (length file % 8) 0 && leb (length file) 32768) (andSection (variablesOf file) (startParsed file)) (Parsed.Refused 2 0)
       (λ t.
       let small : length file ≤ 32768 = leb-true _ _ (and-eq-true-iff (eqb (length file % 8) 0) (leb (length file) 32768) .0 t .1) in
-      refuses-more Parsed.Refused count 4096 (andSection (variablesOf file) (startParsed file)) (omega arith)
+      refuses-more count 4096 (andSection (variablesOf file) (startParsed file)) (omega arith)
       (section-then count (variablesOf file) (section-refuses file 0 0x01 (variableFields file) variable right ends 12 0 0 (omega arith)) (startParsed file)
       (λ n x e. start-refuses n x (section-within file 0 0x01 (variableFields file) variable right ends 12 0 0 n x (omega arith) e))))
-      (λ t. parsed-refused 4096 2 0 (omega arith) (omega arith) (omega arith))
+      (λ t. refused parsed 4096 2 0 (omega arith) (omega arith) (omega arith))

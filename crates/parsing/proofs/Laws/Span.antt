@@ -1,7 +1,7 @@
 -- The span of an expression and its walk agree.
 --     walk-span      where the walk of an expression ends, by its span
 -- Assumes nothing.
-use mathlib.Core.Path.{_≡_, refl, sym, ap, _∙_}
+use mathlib.Core.Path.{_≡_, refl, sym, _∙_}
 use mathlib.Core.List.{List}
 use Prim.Native.Nat.{ℕ, zero, suc, _+_, _*_}
 use native.Mathlib.Nat.{add-zero}
@@ -10,10 +10,9 @@ use lib.ListN.{getD, drop}
 use lib.Seq.{getD-drop, drop-drop}
 use Rattle.parsing.specs.declared.walk.Walked.{Walked}
 use Rattle.parsing.specs.declared.walk.Walked.the-variants.{End}
-use Rattle.parsing.specs.Kind.{formOf, signatureOf}
 use Rattle.parsing.specs.Kind.{signatureAt}
 use Rattle.parsing.specs.Walk.{andThen, inSequence, walkOf, spans, span}
-use Rattle.parsing.proofs.Laws.Walk.{Opened, walk-opens, walk-deepest}
+use Rattle.parsing.proofs.Laws.Walk.{walk-opens, walk-deepest}
 
 module _ (file : List ℕ) (walk : ℕ → Walked) (operand : List ℕ → ℕ)
     (h : (at end : ℕ) → walk at ≡ End end → end ≡ at + operand (drop (8 * at) file)) where

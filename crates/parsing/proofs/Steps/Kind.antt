@@ -1,10 +1,9 @@
 -- Which way `within` goes.
 -- Assumes nothing.
-use mathlib.Core.Path.{_≡_, _∙_, refl}
-use mathlib.Core.Bool.{Bool, cond, _&&_, and-false}
+use mathlib.Core.Path.{_≡_}
+use mathlib.Core.Bool.{and-false}
 use Prim.Native.Nat.{ℕ, _≤_, _<_}
 use borrow.Author.Tests.{le-leb, lt-leb}
-use lib.Dec.{leb}
 use Rattle.parsing.specs.declared.kinds.Form.{Form}
 use Rattle.parsing.specs.Kind.{within}
 

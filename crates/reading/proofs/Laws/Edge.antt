@@ -6,15 +6,14 @@
 use mathlib.Core.Path.{_≡_, refl, sym, _∙_}
 use mathlib.Core.Bool.{Bool, true, false, cond, not, _&&_, _||_, and-eq-true-iff}
 use mathlib.Core.List.{List}
-use Prim.Native.Nat.{ℕ, zero, suc, _+_, _-_, _*_, _<_, _≤_}
+use Prim.Native.Nat.{ℕ, _+_, _-_, _<_, _≤_}
 use native.Mathlib.Omega.{arith}
 use borrow.Author.Tests.{eq-eqb, ne-eqb, eqb-true, eqb-false, ltb-true, ltb-false, leb-true, not-true, not-false}
 use lib.Dec.{ltb, leb, eqb}
-use Rattle.parsing.specs.declared.walk.Walked.{Walked}
 use Rattle.parsing.specs.declared.outline.Outline.{Outline}
 use Rattle.parsing.specs.Record.{fieldA, fieldB, fieldC, fieldD}
 use Rattle.parsing.proofs.Laws.Parsed as parsed
-use Rattle.parsing.specs.Search.{any, refuseFirst}
+use Rattle.parsing.specs.Search.{any}
 use Rattle.parsing.proofs.Laws.Search.{any-false, any-some, refuse-all}
 use Rattle.reading.specs.Edge.{single, double, diagram, descending, justOf, conflictOf, chainRuleOf, ruleOf, rulesOf, doubleFrom, doubledOf, doublesOf}
 use Rattle.reading.specs.Readable.{Edge, DoubleTransition}

@@ -1,9 +1,8 @@
 -- What the code of the later stages asks of an outline holds for a file that parses.
 -- Assumes nothing.
 use mathlib.Core.List.{List}
-use Prim.Native.Nat.{ℕ, _+_, _*_, _/_, _≤_}
+use Prim.Native.Nat.{ℕ, _+_}
 use native.Mathlib.Omega.{arith}
-use lib.ListN.{length}
 use Rattle.parsing.specs.declared.outline.Outline.{Outline}
 use Rattle.parsing.specs.Kind.{truth}
 use Rattle.parsing.proofs.Laws.Walk.{walk-bound}

@@ -2,34 +2,35 @@
 --     whole, small                        the file is whole records, at most 4,096 of them
 --     variables-within, transitions-within, nodes-within, phases, edges-within     its counts, within their limits
 --     property-kind                       invariance, wait-for or chain
---     variable-range, states-within       no range is empty; the states are the product of the ranges, at most 1,048,576
+--     variable-range, states-within, states-end     no range is empty; the states are the product of the ranges, at most 1,048,576
 --     start, transition, claimed, node    each expression walks to its end, with its intervals in bounds; no variable is assigned twice
+--     transition-place, node-place        the tables of places have each transition's and each node's record
 --     edge, edge-invariance, edge-waiting, edge-chain, edge-double     each edge names what exists and obeys its rules
 --     double-transition                   each chain node from 1 up has exactly one double transition, and it is just
 --     just-place                          a just transition's record says so
 -- Assumes nothing.
-use mathlib.Core.Path.{_≡_, refl, _∙_}
+use mathlib.Core.Path.{_≡_, refl, sym, ap, _∙_}
 use mathlib.Core.Logic.{_⊎_, inl, inr}
 use mathlib.Core.Bool.{Bool, true, false, cond, _&&_, _||_, and-eq-true-iff}
 use mathlib.Core.List.{List}
 use Prim.Native.Nat.{ℕ, _+_, _*_, _/_, _%_, _<_, _≤_}
 use native.Mathlib.Omega.{arith}
 use borrow.Author.Tests.{eq-eqb, eqb-true}
-use lib.ListN.{length}
+use lib.ListN.{length, getD}
 use lib.Dec.{leb, eqb}
 use lib.Signed.{_≤ℤ_}
-use Rattle.integers.specs.declared.Interval.{Interval}
 use Rattle.parsing.specs.declared.walk.Walked.{Walked}
 use Rattle.parsing.specs.declared.outline.Outline.{Outline}
-use Rattle.parsing.specs.Record.{fieldA, fieldB, fieldC, fieldD, valueB, valueC, kindIs, zerosOf}
-use Rattle.parsing.specs.Kind.{truth}
+use Rattle.parsing.specs.Record.{fieldA, fieldB, fieldC, fieldD, valueB, valueC, zerosOf}
 use Rattle.parsing.specs.Walk.{inSequence}
 use Rattle.parsing.specs.Section.{noFields, propertyFields, expressionsOf, phasesOr, transitionOf, nodeOf, nodesOf}
+use Rattle.parsing.specs.Place.{placeOf, placesOf}
+use Rattle.parsing.proofs.Laws.Place.{places-nth}
 use Rattle.parsing.proofs.Laws.Section.{items-most}
 use Rattle.parsing.proofs.Laws.Outline.{Parses}
 use Rattle.parsing.proofs.Laws.Parsed as parsed
 use Rattle.reading.specs.declared.Reading.{Reading}
-use Rattle.reading.specs.States.{productOf}
+use Rattle.reading.specs.States.{statesOf, productOf}
 use Rattle.reading.specs.Edge.{diagram, transitionAt, justOf, Fits}
 use Rattle.reading.specs.Read.{readOf}
 use Rattle.reading.specs.Readable.{Start, Transition, Claimed, Node, Edge, DoubleTransition}
@@ -108,6 +109,10 @@ module _ (file : List ℕ) (o : Outline) (r : readOf file ≡ Reading.Readable o
       let below = s .2 in
       (omega arith, omega arith)
 
+  -- so that is what `states` answers
+  pub states-end : statesOf file (o .vars) 0 1 ≡ Walked.End (productOf file (o .vars) 0)
+  states-end = stages .states .is ∙ ap Walked.End (sym (states-most file (o .vars) (stages .states .end) (stages .states .is) .0))
+
   -- ---- expressions
   pub start : Start file o
   start = scan.start-scanned file o stages
@@ -120,6 +125,17 @@ module _ (file : List ℕ) (o : Outline) (r : readOf file ≡ Reading.Readable o
 
   pub node : (n : ℕ) → n < o .nodes → Node file o n
   node = scan.node-scanned file o stages
+
+  -- the tables of places have them
+  pub transition-place : (t : ℕ) (l : t < o .transitions) → getD (placesOf (transitionOf file (o .vars)) (o .transitions) (o .transition)) t 0 ≡ transition t l .place
+  transition-place t l =
+      let m = transitions-within in
+      places-nth (transitionOf file (o .vars)) (o .transitions) (o .transition) t (omega arith) l ∙ ap placeOf (transition t l .reached)
+
+  pub node-place : (n : ℕ) (l : n < o .nodes) → getD (placesOf (nodeOf file (o .vars)) (o .nodes) (o .node)) n 0 ≡ node n l .place
+  node-place n l =
+      let m = nodes-within .1 in
+      places-nth (nodeOf file (o .vars)) (o .nodes) (o .node) n (omega arith) l ∙ ap placeOf (node n l .reached)
 
   -- ---- edges
   pub edge : (e : ℕ) → e < o .edges → Edge file o e

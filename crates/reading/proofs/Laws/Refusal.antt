@@ -17,14 +17,14 @@ use Rattle.parsing.specs.Record.{kindAt}
 use Rattle.parsing.specs.Kind.{none, formAt, signatureAt}
 use Rattle.parsing.specs.Outline.{parsedOf}
 use Rattle.parsing.specs.Refusal.{Refusal, Refuses}
-use Rattle.parsing.proofs.Laws.Refusal.{by-test, refuses-more, walked-refused, walked-ends, parse-refuses}
+use Rattle.parsing.proofs.Laws.Refusal.{Refusing, walked, refused, by-test, refuses-more, walked-ends, parse-refuses}
 use Rattle.parsing.proofs.Laws.Outline.{Parses, parses}
 use Rattle.reading.specs.declared.Reading.{Reading}
 use Rattle.reading.specs.declared.intervals.Analysis.{Analysis}
 use Rattle.parsing.specs.Search.{refuseFirst}
 use Rattle.reading.specs.States.{sizeOf, statesOf}
 use Rattle.reading.specs.Interval.{unit, leafOf, joinOf, ownOf, andInterval, byOperands, analysisOf, andExpression, analysedFrom, intervalsOf}
-use Rattle.reading.specs.Edge.{diagram, ruleOf, rulesOf, doubledOf, doublesOf, Fits}
+use Rattle.reading.specs.Edge.{diagram, ruleOf, rulesOf, doubledOf, doublesOf}
 use Rattle.reading.specs.Read.{andStage, stagesRead, parsedRead, readOf}
 use Rattle.reading.proofs.Laws.Interval.{analysis-within}
 use Rattle.reading.proofs.Laws.Fits.{fits}
@@ -35,16 +35,16 @@ module _ (most : ℕ) where
   unfolding refuseFirst
   row-refuses number f t test zero at l = walked-ends most at
   row-refuses number f t test (suc left) at l =
-      by-test Walked.Refused most (test at) (refuseFirst number test left (at + 1)) (Walked.Refused number at)
-      (λ h. row-refuses number f t test left (at + 1) (omega arith)) (λ h. walked-refused most number at f t (omega arith))
+      by-test most (test at) (refuseFirst number test left (at + 1)) (Walked.Refused number at)
+      (λ h. row-refuses number f t test left (at + 1) (omega arith)) (λ h. refused walked most number at f t (omega arith))
 
   states-refuses : (file : List ℕ) (left at product : ℕ) → at + left ≤ most → Refuses Walked.Refused most (statesOf file left at product)
   unfolding statesOf
   states-refuses file zero at product l = walked-ends most product
   states-refuses file (suc left) at product l =
       let next = product * sizeOf file at in
-      by-test Walked.Refused most (leb next 1048576) (statesOf file left (at + 1) next) (Walked.Refused 7 at)
-      (λ h. states-refuses file left (at + 1) next (omega arith)) (λ h. walked-refused most 7 at (omega arith) (omega arith) (omega arith))
+      by-test most (leb next 1048576) (statesOf file left (at + 1) next) (Walked.Refused 7 at)
+      (λ h. states-refuses file left (at + 1) next (omega arith)) (λ h. refused walked most 7 at (omega arith) (omega arith) (omega arith))
 
 -- ---- intervals
 module _ (file : List ℕ) where
@@ -98,16 +98,16 @@ module _ (file : List ℕ) where
     where
       go : (b : Analysis) → a ≡ b → Outside b → ((i : Interval) (end : ℕ) → a ≡ Analysis.Within i end → Refuses Walked.Refused count (next end)) → Refuses Walked.Refused count (andExpression b next)
       go (Analysis.Within i end) is h k = k i end is
-      go (Analysis.Out place) is h k = walked-refused count 8 place (omega arith) (omega arith) (h place refl)
+      go (Analysis.Out place) is h k = refused walked count 8 place (omega arith) (omega arith) (h place refl)
 
   scan-refuses : (left at : ℕ) → at ≤ count → Refuses Walked.Refused count (analysedFrom file left at)
   unfolding analysedFrom
   scan-refuses zero at l = walked-ends count at
   scan-refuses (suc left) at l =
       let expression = andExpression (analysisOf file 16 at) (analysedFrom file left) in
-      by-test Walked.Refused count (ltb at count) (cond (eqb (signatureAt file at .sort) none) (analysedFrom file left (at + 1)) expression) (Walked.End at)
+      by-test count (ltb at count) (cond (eqb (signatureAt file at .sort) none) (analysedFrom file left (at + 1)) expression) (Walked.End at)
       (λ h.
-      by-test Walked.Refused count (eqb (signatureAt file at .sort) none) (analysedFrom file left (at + 1)) expression
+      by-test count (eqb (signatureAt file at .sort) none) (analysedFrom file left (at + 1)) expression
       (λ s. scan-refuses left (at + 1) (let z = ltb-true at count h in omega arith))
       (λ s. expression-refuses (analysisOf file 16 at) (analysis-outside 16 at l) (analysedFrom file left) (λ i end e. scan-refuses left end (analysis-within file 16 at end i e))))
       (λ h. walked-ends count at)
@@ -116,12 +116,12 @@ module _ (file : List ℕ) where
 abbrev Right : Reading → Type 0
 Right = Refuses Reading.Refused 4096
 
-reading-refused : (n p : ℕ) → Refusal 4096 n p → Right (Reading.Refused n p)
-reading-refused n p r number place e = let a : n ≡ number = cc in let b : p ≡ place = cc in record { from = omega arith; to = omega arith; within = omega arith }
+reading : Refusing Reading.Refused
+reading = record { same = λ n p m q e. (cc, cc) }
 
 stage-then : (w : Walked) → Refuses Walked.Refused 4096 w → (next : Reading) → Right next → Right (andStage w next)
 stage-then (Walked.End end) h next k = k
-stage-then (Walked.Refused n p) h next k = reading-refused n p (h n p refl)
+stage-then (Walked.Refused n p) h next k = let q = h n p refl in refused reading 4096 n p (q .from) (q .to) (q .within)
 
 module _ (file : List ℕ) (o : Outline) (p : Parses file o) where
   stages-refuse : Right (stagesRead file o)
@@ -135,10 +135,10 @@ module _ (file : List ℕ) (o : Outline) (p : Parses file o) where
       let doubles = andStage (doublesOf file o) (Reading.Readable o) in
       let rules = andStage (rulesOf file o) doubles in
       stage-then (statesOf file (o .vars) 0 1) (states-refuses 4096 file (o .vars) 0 1 (omega arith)) (andStage (intervalsOf file) rules)
-      (stage-then (intervalsOf file) (refuses-more Walked.Refused (length file / 8) 4096 (intervalsOf file) (omega arith) (scan-refuses file (length file / 8) 0 (omega arith))) rules
+      (stage-then (intervalsOf file) (refuses-more (length file / 8) 4096 (intervalsOf file) (omega arith) (scan-refuses file (length file / 8) 0 (omega arith))) rules
       (stage-then (rulesOf file o) (row-refuses 4096 9 (omega arith) (omega arith) (ruleOf file o) (o .edges) (o .edge) (omega arith)) doubles
       (stage-then (doublesOf file o)
-      (by-test Walked.Refused 4096 (eqb (diagram file o) 3) (refuseFirst 10 (doubledOf file o) (o .nodes - 1) 1) (Walked.End 0)
+      (by-test 4096 (eqb (diagram file o) 3) (refuseFirst 10 (doubledOf file o) (o .nodes - 1) 1) (Walked.End 0)
       (λ c. row-refuses 4096 10 (omega arith) (omega arith) (doubledOf file o) (o .nodes - 1) 1 (omega arith)) (λ c. walked-ends 4096 0)) (Reading.Readable o)
       (λ number place e. let z : _≡_ {A = ℕ} 0 1 = cc in absurd (omega arith)))))
 
@@ -148,4 +148,4 @@ read-refuses file = go (parsedOf file) refl
   where
     go : (x : Parsed) → parsedOf file ≡ x → Right (parsedRead file x)
     go (Parsed.Whole o) is = stages-refuse file o (parses file o is)
-    go (Parsed.Refused n p) is = reading-refused n p (parse-refuses file n p is)
+    go (Parsed.Refused n p) is = let q = parse-refuses file n p is in refused reading 4096 n p (q .from) (q .to) (q .within)

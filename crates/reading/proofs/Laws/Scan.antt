@@ -16,7 +16,7 @@ use Rattle.parsing.specs.declared.walk.Walked.{Walked}
 use Rattle.parsing.specs.declared.outline.Outline.{Outline}
 use Rattle.parsing.specs.Record.{kindAt, fieldA, kindIs, zerosOf}
 use Rattle.parsing.specs.Kind.{none, number, truth, within, formOf, signatureOf, signatureAt}
-use Rattle.parsing.specs.Walk.{andThen, inSequence, walkOf, truthOf}
+use Rattle.parsing.specs.Walk.{andThen, walkOf, truthOf}
 use Rattle.parsing.specs.Section.{noFields, variableFields, transitionFields, assignmentFields, variablesOf, assignmentsOf, transitionOf, transitionsOf, expressionsOf, phasesOr, nodeOf, nodesOf}
 use Rattle.parsing.proofs.Laws.Walk.{walk-opens}
 use Rattle.parsing.proofs.Laws.Section.{items-through, items-reach, sequence-through, sequence-reach}

@@ -7,10 +7,6 @@ use Rattle.reading.proofs.Laws.Fits.{fits}
 use borrow.Author.Needs.{needs}
 use Rattle.reading.proofs.read.Statement.{statement}
 use Rattle.reading.proofs.read.Tie as tie
-use Rattle.reading.proofs.read.Reads as reads
-use Rattle.reading.proofs.read.Lts as lts
-use Rattle.parsing.proofs.outline.parse.Reads as parse-reads
-use Rattle.reading.proofs.read_parsed.Reads as read-parsed-reads
 
 parse-requires : tie.Need-parse-requires
 parse-requires c κs = search needs

@@ -5,12 +5,6 @@ use Rattle.reading.specs.Read.{stagesRead}
 use borrow.Author.Needs.{needs}
 use Rattle.reading.proofs.read_parsed.Statement.{statement}
 use Rattle.reading.proofs.read_parsed.Tie as tie
-use Rattle.reading.proofs.read_parsed.Reads as reads
-use Rattle.reading.proofs.read_parsed.Lts as lts
-use Rattle.reading.proofs.edges.doubles.Reads as doubles-reads
-use Rattle.reading.proofs.edges.rules.Reads as rules-reads
-use Rattle.reading.proofs.intervals.intervals.Reads as intervals-reads
-use Rattle.reading.proofs.states.states.Reads as states-reads
 
 states-requires : tie.Need-states-requires
 states-requires c κs = search needs

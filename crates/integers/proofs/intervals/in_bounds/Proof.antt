@@ -1,9 +1,8 @@
 -- `integers::intervals::in_bounds` meets its contract: each end is tested. The read of a field tells that it fits. Assumes nothing.
 use borrow.Author.Needs.{needs}
 use mathlib.Core.Path.{_≡_, sym, _∙_}
-use mathlib.Core.Bool.{Bool}
 use mir.Syntax.{w64}
-use lib.IntN.{ℤ, pos, negsuc}
+use lib.IntN.{pos, negsuc}
 use Rattle.integers.specs.Interval.{between, inBounds}
 use Rattle.integers.proofs.Laws.Parts.{back}
 use Rattle.integers.proofs.intervals.in_bounds.Statement.{statement}

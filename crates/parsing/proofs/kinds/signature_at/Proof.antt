@@ -5,10 +5,6 @@ use Rattle.parsing.specs.Kind.{signatureOf}
 use borrow.Author.Needs.{needs}
 use Rattle.parsing.proofs.kinds.signature_at.Statement.{statement}
 use Rattle.parsing.proofs.kinds.signature_at.Tie as tie
-use Rattle.parsing.proofs.kinds.signature_at.Reads as reads
-use Rattle.parsing.proofs.kinds.signature_at.Lts as lts
-use Rattle.parsing.proofs.kinds.form_of.Reads as form-of-reads
-use Rattle.parsing.proofs.kinds.signature_of.Reads as signature-of-reads
 
 mul-form-of : tie.Need-mul-form-of
 mul-form-of c = search needs

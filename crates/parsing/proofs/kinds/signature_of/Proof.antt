@@ -5,9 +5,6 @@ use Rattle.parsing.specs.Kind.{signatureOf}
 use borrow.Author.Needs.{needs}
 use Rattle.parsing.proofs.kinds.signature_of.Statement.{statement}
 use Rattle.parsing.proofs.kinds.signature_of.Tie as tie
-use Rattle.parsing.proofs.kinds.signature_of.Reads as reads
-use Rattle.parsing.proofs.kinds.signature_of.Lts as lts
-use Rattle.parsing.proofs.kinds.row.Reads as row-reads
 
 enum-told : tie.Need-enum-told
 enum-told c = search needs

@@ -8,10 +8,6 @@ use Rattle.parsing.proofs.Laws.Section.{items-most}
 use borrow.Author.Needs.{needs}
 use Rattle.parsing.proofs.outline.parse.Statement.{statement}
 use Rattle.parsing.proofs.outline.parse.Tie as tie
-use Rattle.parsing.proofs.outline.parse.Reads as reads
-use Rattle.parsing.proofs.outline.parse.Lts as lts
-use Rattle.parsing.proofs.outline.parse_start.Reads as parse-start-reads
-use Rattle.parsing.proofs.sections.variables.Reads as variables-reads
 
 returns : tie.Need-returns
 unfolding parsedOf

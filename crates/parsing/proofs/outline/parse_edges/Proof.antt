@@ -6,9 +6,6 @@ use Rattle.parsing.specs.Outline.{edgesParsed}
 use borrow.Author.Needs.{needs}
 use Rattle.parsing.proofs.outline.parse_edges.Statement.{statement}
 use Rattle.parsing.proofs.outline.parse_edges.Tie as tie
-use Rattle.parsing.proofs.outline.parse_edges.Reads as reads
-use Rattle.parsing.proofs.outline.parse_edges.Lts as lts
-use Rattle.parsing.proofs.sections.edges.Reads as edges-reads
 
 edges-requires : tie.Need-edges-requires
 edges-requires c κs = search needs

@@ -6,11 +6,6 @@ use Rattle.parsing.specs.Outline.{nodesParsed}
 use borrow.Author.Needs.{needs}
 use Rattle.parsing.proofs.outline.parse_nodes.Statement.{statement}
 use Rattle.parsing.proofs.outline.parse_nodes.Tie as tie
-use Rattle.parsing.proofs.outline.parse_nodes.Reads as reads
-use Rattle.parsing.proofs.outline.parse_nodes.Lts as lts
-use Rattle.parsing.proofs.sections.phases_or.Reads as phases-or-reads
-use Rattle.parsing.proofs.sections.nodes.Reads as nodes-reads
-use Rattle.parsing.proofs.outline.parse_edges.Reads as parse-edges-reads
 
 phases-or-requires : tie.Need-phases-or-requires
 phases-or-requires c κs = search needs

@@ -8,13 +8,6 @@ use Rattle.parsing.proofs.Laws.Section.{kind-here}
 use borrow.Author.Needs.{needs}
 use Rattle.parsing.proofs.outline.parse_property.Statement.{statement}
 use Rattle.parsing.proofs.outline.parse_property.Tie as tie
-use Rattle.parsing.proofs.outline.parse_property.Reads as reads
-use Rattle.parsing.proofs.outline.parse_property.Lts as lts
-use Rattle.parsing.proofs.sections.expressions.Reads as expressions-reads
-use Rattle.parsing.proofs.records.kind_is.Reads as kind-is-reads
-use Rattle.parsing.proofs.sections.property_fields.Reads as property-fields-reads
-use Rattle.parsing.proofs.outline.parse_nodes.Reads as parse-nodes-reads
-use Rattle.parsing.proofs.walk.truths.Reads as truths-reads
 
 kind-is-requires : tie.Need-kind-is-requires
 kind-is-requires c κs = search needs

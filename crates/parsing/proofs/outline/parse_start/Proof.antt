@@ -8,12 +8,6 @@ use Rattle.parsing.proofs.Laws.Section.{kind-here}
 use borrow.Author.Needs.{needs}
 use Rattle.parsing.proofs.outline.parse_start.Statement.{statement}
 use Rattle.parsing.proofs.outline.parse_start.Tie as tie
-use Rattle.parsing.proofs.outline.parse_start.Reads as reads
-use Rattle.parsing.proofs.outline.parse_start.Lts as lts
-use Rattle.parsing.proofs.records.kind_is.Reads as kind-is-reads
-use Rattle.parsing.proofs.outline.parse_transitions.Reads as parse-transitions-reads
-use Rattle.parsing.proofs.walk.walk.Reads as walk-reads
-use Rattle.parsing.proofs.records.zeros.Reads as zeros-reads
 
 returns : tie.Need-returns
 unfolding startParsed

@@ -5,10 +5,6 @@ use Rattle.parsing.specs.Outline.{transitionsParsed}
 use borrow.Author.Needs.{needs}
 use Rattle.parsing.proofs.outline.parse_transitions.Statement.{statement}
 use Rattle.parsing.proofs.outline.parse_transitions.Tie as tie
-use Rattle.parsing.proofs.outline.parse_transitions.Reads as reads
-use Rattle.parsing.proofs.outline.parse_transitions.Lts as lts
-use Rattle.parsing.proofs.outline.parse_property.Reads as parse-property-reads
-use Rattle.parsing.proofs.sections.transitions.Reads as transitions-reads
 
 transitions-requires : tie.Need-transitions-requires
 transitions-requires c κs = search needs

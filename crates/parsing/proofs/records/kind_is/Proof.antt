@@ -5,8 +5,6 @@ use Rattle.parsing.specs.Record.{kindIs}
 use borrow.Author.Needs.{needs}
 use Rattle.parsing.proofs.records.kind_is.Statement.{statement}
 use Rattle.parsing.proofs.records.kind_is.Tie as tie
-use Rattle.parsing.proofs.records.kind_is.Reads as reads
-use Rattle.parsing.proofs.records.kind_is.Lts as lts
 
 mul-result : tie.Need-mul-result
 mul-result c = search needs

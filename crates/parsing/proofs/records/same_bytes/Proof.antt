@@ -9,8 +9,6 @@ use Rattle.parsing.specs.Record.{sameBytes}
 use Rattle.parsing.proofs.Steps.Record.{same-none, same-step}
 use Rattle.parsing.proofs.records.same_bytes.Statement.{statement}
 use Rattle.parsing.proofs.records.same_bytes.Tie as tie
-use Rattle.parsing.proofs.records.same_bytes.Reads as reads
-use Rattle.parsing.proofs.records.same_bytes.Lts as lts
 
 abbrev Inv-loop : tie.InvT-loop
 Inv-loop file i j n left₀ k₀ m₀ left k m = (sameBytes file i j n ≡ sameBytes file k m left) × ((k + left ≤ length file) × (m + left ≤ length file))

@@ -6,10 +6,6 @@ use Rattle.integers.proofs.Laws.Parts.{back}
 use borrow.Author.Needs.{needs}
 use Rattle.parsing.proofs.records.value_at.Statement.{statement}
 use Rattle.parsing.proofs.records.value_at.Tie as tie
-use Rattle.parsing.proofs.records.value_at.Reads as reads
-use Rattle.parsing.proofs.records.value_at.Lts as lts
-use Rattle.integers.proofs.bytes.signed16.Reads as signed16-reads
-use Rattle.parsing.proofs.records.byte_at.Reads as byte-at-reads
 
 byte-at-requires : tie.Need-byte-at-requires
 byte-at-requires c κs = search needs

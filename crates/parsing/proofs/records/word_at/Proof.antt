@@ -6,8 +6,6 @@ use Prim.Native.Nat.{_+_}
 use borrow.Author.Needs.{needs}
 use Rattle.parsing.proofs.records.word_at.Statement.{statement}
 use Rattle.parsing.proofs.records.word_at.Tie as tie
-use Rattle.parsing.proofs.records.word_at.Reads as reads
-use Rattle.parsing.proofs.records.word_at.Lts as lts
 
 shared-slice-read-result : tie.Need-shared-slice-read-result
 shared-slice-read-result c = search needs

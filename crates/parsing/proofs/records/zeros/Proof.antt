@@ -1,6 +1,5 @@
 -- `parsing::records::zeros` meets its contract. What is left to be tested says what the whole does, as each byte passed is zero.
 -- Assumes nothing.
-use borrow.Author.Needs.{needs}
 use borrow.Author.Tests.{eq-eqb, ne-eqb}
 use mathlib.Core.Path.{_≡_, refl, sym, _∙_}
 use Prim.Native.Nat.{_+_, _≤_}
@@ -10,8 +9,6 @@ use Rattle.parsing.specs.Record.{zerosOf}
 use Rattle.parsing.proofs.Steps.Record.{zeros-none, zeros-step}
 use Rattle.parsing.proofs.records.zeros.Statement.{statement}
 use Rattle.parsing.proofs.records.zeros.Tie as tie
-use Rattle.parsing.proofs.records.zeros.Reads as reads
-use Rattle.parsing.proofs.records.zeros.Lts as lts
 
 abbrev Inv-loop : tie.InvT-loop
 Inv-loop file from n at₀ left₀ at left = (zerosOf file from n ≡ zerosOf file at left) × (at + left ≤ length file)

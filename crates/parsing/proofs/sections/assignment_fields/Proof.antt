@@ -7,9 +7,6 @@ use Rattle.parsing.specs.Section.{assignmentFields}
 use borrow.Author.Needs.{needs}
 use Rattle.parsing.proofs.sections.assignment_fields.Statement.{statement}
 use Rattle.parsing.proofs.sections.assignment_fields.Tie as tie
-use Rattle.parsing.proofs.sections.assignment_fields.Reads as reads
-use Rattle.parsing.proofs.sections.assignment_fields.Lts as lts
-use Rattle.parsing.proofs.records.zeros.Reads as zeros-reads
 
 mul-base : tie.Need-mul-base
 mul-base c = search needs

@@ -7,16 +7,10 @@ use mathlib.Core.Path.{refl, sym, _∙_, _≡_}
 use Prim.Native.Nat.{_+_, _*_}
 use lib.ListN.{replicate}
 use Rattle.parsing.specs.Section.{assignmentsOf}
-use borrow.Author.Needs.{needs}
 use Rattle.parsing.proofs.Laws.Section.{kind-here}
 use Rattle.parsing.proofs.Steps.Section.{assigned-below, assign-stop, assign-field, assign-over, assign-again, assign-ends, assign-refused}
 use Rattle.parsing.proofs.sections.assignments.Statement.{statement}
 use Rattle.parsing.proofs.sections.assignments.Tie as tie
-use Rattle.parsing.proofs.sections.assignments.Reads as reads
-use Rattle.parsing.proofs.sections.assignments.Lts as lts
-use Rattle.parsing.proofs.sections.assignment_fields.Reads as assignment-fields-reads
-use Rattle.parsing.proofs.records.kind_is.Reads as kind-is-reads
-use Rattle.parsing.proofs.walk.walk.Reads as walk-reads
 
 abbrev Inv-loop : tie.InvT-loop
 Inv-loop file vars at assigned₀ left₀ next₀ assigned left next = assignmentsOf file vars 12 (replicate 12 0) at ≡ assignmentsOf file vars left assigned next

@@ -8,10 +8,6 @@ use Rattle.parsing.specs.Section.{edgeFields}
 use borrow.Author.Needs.{needs}
 use Rattle.parsing.proofs.sections.edge_fields.Statement.{statement}
 use Rattle.parsing.proofs.sections.edge_fields.Tie as tie
-use Rattle.parsing.proofs.sections.edge_fields.Reads as reads
-use Rattle.parsing.proofs.sections.edge_fields.Lts as lts
-use Rattle.parsing.proofs.records.word_at.Reads as word-at-reads
-use Rattle.parsing.proofs.records.zeros.Reads as zeros-reads
 
 mul-base : tie.Need-mul-base
 mul-base c = search needs

@@ -11,11 +11,6 @@ use Rattle.parsing.proofs.Laws.Section.{kind-here}
 use Rattle.parsing.proofs.Steps.Section.{items-stop, items-field, items-over, items-ends, items-refused}
 use Rattle.parsing.proofs.sections.edges.Statement.{statement}
 use Rattle.parsing.proofs.sections.edges.Tie as tie
-use Rattle.parsing.proofs.sections.edges.Reads as reads
-use Rattle.parsing.proofs.sections.edges.Lts as lts
-use Rattle.parsing.proofs.sections.edge_fields.Reads as edge-fields-reads
-use Rattle.parsing.proofs.records.kind_is.Reads as kind-is-reads
-use Rattle.parsing.proofs.sections.repeated.Reads as repeated-reads
 
 abbrev Inv-loop : tie.InvT-loop
 Inv-loop file transitions nodes first left₀ count₀ at₀ left count at = (edgesOf file transitions nodes first ≡ itemsOf file 0x07 (edgeFields file transitions nodes) (λ i. cond (repeatedOf file i first (i - first)) (Walked.Refused 6 i) (Walked.End (i + 1))) left count at) × ((count + left ≡ 512) × (first ≤ at))

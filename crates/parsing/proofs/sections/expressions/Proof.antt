@@ -6,9 +6,6 @@ use Rattle.parsing.specs.Section.{expressionsOf}
 use borrow.Author.Needs.{needs}
 use Rattle.parsing.proofs.sections.expressions.Statement.{statement}
 use Rattle.parsing.proofs.sections.expressions.Tie as tie
-use Rattle.parsing.proofs.sections.expressions.Reads as reads
-use Rattle.parsing.proofs.sections.expressions.Lts as lts
-use Rattle.parsing.proofs.records.word_at.Reads as word-at-reads
 
 mul-a : tie.Need-mul-a
 mul-a c = search needs

@@ -7,16 +7,10 @@ use mathlib.Core.Path.{refl, sym, _∙_, _≡_}
 use Prim.Native.Nat.{_+_}
 use Rattle.parsing.specs.Section.{noFields, itemsOf, nodesOf}
 use Rattle.parsing.specs.Walk.{truthOf}
-use borrow.Author.Needs.{needs}
 use Rattle.parsing.proofs.Laws.Section.{kind-here}
 use Rattle.parsing.proofs.Steps.Section.{items-stop, items-field, items-over, items-ends, items-refused}
 use Rattle.parsing.proofs.sections.nodes.Statement.{statement}
 use Rattle.parsing.proofs.sections.nodes.Tie as tie
-use Rattle.parsing.proofs.sections.nodes.Reads as reads
-use Rattle.parsing.proofs.sections.nodes.Lts as lts
-use Rattle.parsing.proofs.records.kind_is.Reads as kind-is-reads
-use Rattle.parsing.proofs.walk.walk.Reads as walk-reads
-use Rattle.parsing.proofs.records.zeros.Reads as zeros-reads
 
 abbrev Inv-loop : tie.InvT-loop
 Inv-loop file vars most from left₀ count₀ at₀ left count at = (nodesOf file vars most from ≡ itemsOf file 0x06 (noFields file) (λ i. truthOf file vars (i + 1)) left count at) × (count + left ≡ most)

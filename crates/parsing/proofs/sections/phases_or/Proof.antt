@@ -6,9 +6,6 @@ use Rattle.parsing.specs.Section.{phasesOr}
 use borrow.Author.Needs.{needs}
 use Rattle.parsing.proofs.sections.phases_or.Statement.{statement}
 use Rattle.parsing.proofs.sections.phases_or.Tie as tie
-use Rattle.parsing.proofs.sections.phases_or.Reads as reads
-use Rattle.parsing.proofs.sections.phases_or.Lts as lts
-use Rattle.parsing.proofs.records.word_at.Reads as word-at-reads
 
 mul-if1 : tie.Need-mul-if1
 mul-if1 c = search needs

@@ -6,10 +6,6 @@ use Rattle.parsing.specs.Section.{propertyFields}
 use borrow.Author.Needs.{needs}
 use Rattle.parsing.proofs.sections.property_fields.Statement.{statement}
 use Rattle.parsing.proofs.sections.property_fields.Tie as tie
-use Rattle.parsing.proofs.sections.property_fields.Reads as reads
-use Rattle.parsing.proofs.sections.property_fields.Lts as lts
-use Rattle.parsing.proofs.records.word_at.Reads as word-at-reads
-use Rattle.parsing.proofs.records.zeros.Reads as zeros-reads
 
 mul-base : tie.Need-mul-base
 mul-base c = search needs

@@ -9,9 +9,6 @@ use Rattle.parsing.specs.Search.{any}
 use Rattle.parsing.proofs.Laws.Search.{any-none, any-hit, any-next}
 use Rattle.parsing.proofs.sections.repeated.Statement.{statement}
 use Rattle.parsing.proofs.sections.repeated.Tie as tie
-use Rattle.parsing.proofs.sections.repeated.Reads as reads
-use Rattle.parsing.proofs.sections.repeated.Lts as lts
-use Rattle.parsing.proofs.records.same_bytes.Reads as same-bytes-reads
 
 abbrev Inv-loop : tie.InvT-loop
 Inv-loop file at first n left₀ edge₀ left edge = (repeatedOf file at first n ≡ any (λ e. sameBytes file (8 * e + 1) (8 * at + 1) 5) left edge) × (edge + left ≤ at)

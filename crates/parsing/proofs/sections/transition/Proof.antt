@@ -5,10 +5,6 @@ use Rattle.parsing.specs.Section.{transitionOf}
 use borrow.Author.Needs.{needs}
 use Rattle.parsing.proofs.sections.transition.Statement.{statement}
 use Rattle.parsing.proofs.sections.transition.Tie as tie
-use Rattle.parsing.proofs.sections.transition.Reads as reads
-use Rattle.parsing.proofs.sections.transition.Lts as lts
-use Rattle.parsing.proofs.sections.assignments.Reads as assignments-reads
-use Rattle.parsing.proofs.walk.walk.Reads as walk-reads
 
 add-walk : tie.Need-add-walk
 add-walk c = search needs

@@ -10,9 +10,6 @@ use Rattle.parsing.proofs.Laws.Section.{transition-bound}
 use Rattle.parsing.proofs.Steps.Place.{Filled, filled-begins, filled-done, filled-more, filled-refused}
 use Rattle.parsing.proofs.sections.transition_places.Statement.{statement}
 use Rattle.parsing.proofs.sections.transition_places.Tie as tie
-use Rattle.parsing.proofs.sections.transition_places.Reads as reads
-use Rattle.parsing.proofs.sections.transition_places.Lts as lts
-use Rattle.parsing.proofs.sections.transition.Reads as transition-reads
 
 abbrev Inv-loop : tie.InvT-loop
 Inv-loop file vars n first places₀ next₀ i₀ places next i = Filled (transitionOf file vars) n first places i next × (next ≤ length file / 8)

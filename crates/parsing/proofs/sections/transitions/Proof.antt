@@ -6,16 +6,10 @@ use borrow.Author.Tests.{not-true, not-false}
 use mathlib.Core.Path.{refl, sym, _∙_, _≡_}
 use Prim.Native.Nat.{_+_}
 use Rattle.parsing.specs.Section.{transitionFields, itemsOf, transitionOf, transitionsOf}
-use borrow.Author.Needs.{needs}
 use Rattle.parsing.proofs.Laws.Section.{kind-here}
 use Rattle.parsing.proofs.Steps.Section.{items-stop, items-field, items-over, items-ends, items-refused}
 use Rattle.parsing.proofs.sections.transitions.Statement.{statement}
 use Rattle.parsing.proofs.sections.transitions.Tie as tie
-use Rattle.parsing.proofs.sections.transitions.Reads as reads
-use Rattle.parsing.proofs.sections.transitions.Lts as lts
-use Rattle.parsing.proofs.records.kind_is.Reads as kind-is-reads
-use Rattle.parsing.proofs.sections.transition.Reads as transition-reads
-use Rattle.parsing.proofs.sections.transition_fields.Reads as transition-fields-reads
 
 abbrev Inv-loop : tie.InvT-loop
 Inv-loop file vars from left₀ count₀ at₀ left count at = (transitionsOf file vars from ≡ itemsOf file 0x03 (transitionFields file) (transitionOf file vars) left count at) × (count + left ≡ 32)

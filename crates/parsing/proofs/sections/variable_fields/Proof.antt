@@ -8,10 +8,6 @@ use Rattle.parsing.specs.Section.{variableFields}
 use borrow.Author.Needs.{needs}
 use Rattle.parsing.proofs.sections.variable_fields.Statement.{statement}
 use Rattle.parsing.proofs.sections.variable_fields.Tie as tie
-use Rattle.parsing.proofs.sections.variable_fields.Reads as reads
-use Rattle.parsing.proofs.sections.variable_fields.Lts as lts
-use Rattle.parsing.proofs.records.value_at.Reads as value-at-reads
-use Rattle.parsing.proofs.records.zeros.Reads as zeros-reads
 
 mul-base : tie.Need-mul-base
 mul-base c = search needs

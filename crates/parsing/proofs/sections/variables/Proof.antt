@@ -10,10 +10,6 @@ use Rattle.parsing.proofs.Laws.Section.{kind-here}
 use Rattle.parsing.proofs.Steps.Section.{items-stop, items-field, items-over, items-ends}
 use Rattle.parsing.proofs.sections.variables.Statement.{statement}
 use Rattle.parsing.proofs.sections.variables.Tie as tie
-use Rattle.parsing.proofs.sections.variables.Reads as reads
-use Rattle.parsing.proofs.sections.variables.Lts as lts
-use Rattle.parsing.proofs.records.kind_is.Reads as kind-is-reads
-use Rattle.parsing.proofs.sections.variable_fields.Reads as variable-fields-reads
 
 abbrev Inv-loop : tie.InvT-loop
 Inv-loop file left₀ at₀ left at = variablesOf file ≡ itemsOf file 0x01 (variableFields file) (λ i. Walked.End (i + 1)) left at at

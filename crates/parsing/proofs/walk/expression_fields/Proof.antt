@@ -8,9 +8,6 @@ use Rattle.parsing.specs.Walk.{expressionFields}
 use borrow.Author.Needs.{needs}
 use Rattle.parsing.proofs.walk.expression_fields.Statement.{statement}
 use Rattle.parsing.proofs.walk.expression_fields.Tie as tie
-use Rattle.parsing.proofs.walk.expression_fields.Reads as reads
-use Rattle.parsing.proofs.walk.expression_fields.Lts as lts
-use Rattle.parsing.proofs.records.zeros.Reads as zeros-reads
 
 mul-base : tie.Need-mul-base
 mul-base c = search needs

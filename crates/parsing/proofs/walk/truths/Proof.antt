@@ -3,15 +3,10 @@
 use borrow.Author.Needs.{needs}
 use native.Mathlib.Omega.{arith}
 use mathlib.Core.Path.{refl, sym, _∙_, _≡_}
-use Rattle.parsing.specs.Walk.{inSequence}
-use Rattle.parsing.specs.Walk.{truthOf}
-use borrow.Author.Needs.{needs}
+use Rattle.parsing.specs.Walk.{inSequence, truthOf}
 use Rattle.parsing.proofs.Steps.Walk.{sequence-none, sequence-ends, sequence-refused}
 use Rattle.parsing.proofs.walk.truths.Statement.{statement}
 use Rattle.parsing.proofs.walk.truths.Tie as tie
-use Rattle.parsing.proofs.walk.truths.Reads as reads
-use Rattle.parsing.proofs.walk.truths.Lts as lts
-use Rattle.parsing.proofs.walk.walk.Reads as walk-reads
 
 abbrev Inv-loop : tie.InvT-loop
 Inv-loop file vars n at left₀ next₀ left next = inSequence (truthOf file vars) n at ≡ inSequence (truthOf file vars) left next

@@ -7,11 +7,6 @@ use Rattle.reading.proofs.Steps.Edge.{chain-conflict, chain-single, cha
 use borrow.Author.Needs.{needs}
 use Rattle.reading.proofs.edges.chain_rule.Statement.{statement}
 use Rattle.reading.proofs.edges.chain_rule.Tie as tie
-use Rattle.reading.proofs.edges.chain_rule.Reads as reads
-use Rattle.reading.proofs.edges.chain_rule.Lts as lts
-use Rattle.parsing.proofs.records.word_at.Reads as word-at-reads
-use Rattle.reading.proofs.edges.conflicts.Reads as conflicts-reads
-use Rattle.reading.proofs.edges.just.Reads as just-reads
 
 sub-conflicts : tie.Need-sub-conflicts
 sub-conflicts c = search needs

@@ -5,9 +5,6 @@ use Rattle.reading.proofs.Steps.Edge.{conflict-apart, conflict-same, co
 use borrow.Author.Needs.{needs}
 use Rattle.reading.proofs.edges.conflict.Statement.{statement}
 use Rattle.reading.proofs.edges.conflict.Tie as tie
-use Rattle.reading.proofs.edges.conflict.Reads as reads
-use Rattle.reading.proofs.edges.conflict.Lts as lts
-use Rattle.parsing.proofs.records.word_at.Reads as word-at-reads
 
 mul-word-at : tie.Need-mul-word-at
 mul-word-at c = search needs

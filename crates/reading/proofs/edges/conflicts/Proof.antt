@@ -8,9 +8,6 @@ use Rattle.reading.specs.Edge.{conflictOf}
 use Rattle.parsing.proofs.Laws.Search.{any-none, any-hit, any-next}
 use Rattle.reading.proofs.edges.conflicts.Statement.{statement}
 use Rattle.reading.proofs.edges.conflicts.Tie as tie
-use Rattle.reading.proofs.edges.conflicts.Reads as reads
-use Rattle.reading.proofs.edges.conflicts.Lts as lts
-use Rattle.reading.proofs.edges.conflict.Reads as conflict-reads
 
 abbrev Inv-loop : tie.InvT-loop
 Inv-loop file at first n left₀ edge₀ left edge = (any (λ e. conflictOf file e at) n first ≡ any (λ e. conflictOf file e at) left edge) × (edge + left ≤ at)

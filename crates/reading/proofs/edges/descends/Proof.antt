@@ -6,9 +6,6 @@ use Rattle.reading.specs.Edge.{descending}
 use borrow.Author.Needs.{needs}
 use Rattle.reading.proofs.edges.descends.Statement.{statement}
 use Rattle.reading.proofs.edges.descends.Tie as tie
-use Rattle.reading.proofs.edges.descends.Reads as reads
-use Rattle.reading.proofs.edges.descends.Lts as lts
-use Rattle.parsing.proofs.records.word_at.Reads as word-at-reads
 
 mul-word-at : tie.Need-mul-word-at
 mul-word-at c = search needs

@@ -6,9 +6,6 @@ use Rattle.reading.specs.Edge.{doubleFrom}
 use borrow.Author.Needs.{needs}
 use Rattle.reading.proofs.edges.double_from.Statement.{statement}
 use Rattle.reading.proofs.edges.double_from.Tie as tie
-use Rattle.reading.proofs.edges.double_from.Reads as reads
-use Rattle.reading.proofs.edges.double_from.Lts as lts
-use Rattle.parsing.proofs.records.word_at.Reads as word-at-reads
 
 mul-if1 : tie.Need-mul-if1
 mul-if1 c = search needs

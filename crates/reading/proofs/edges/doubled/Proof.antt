@@ -9,9 +9,6 @@ use Rattle.reading.specs.Edge.{doubleFrom, doubledOf}
 use Rattle.parsing.proofs.Laws.Search.{any-none, any-hit, any-next}
 use Rattle.reading.proofs.edges.doubled.Statement.{statement}
 use Rattle.reading.proofs.edges.doubled.Tie as tie
-use Rattle.reading.proofs.edges.doubled.Reads as reads
-use Rattle.reading.proofs.edges.doubled.Lts as lts
-use Rattle.reading.proofs.edges.double_from.Reads as double-from-reads
 
 abbrev Inv-loop : tie.InvT-loop
 Inv-loop file node left₀ at₀ left at = (any (doubleFrom file node) left₀ at₀ ≡ any (doubleFrom file node) left at) × (8 * (at + left) ≤ length file)

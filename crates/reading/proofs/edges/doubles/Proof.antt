@@ -1,6 +1,6 @@
 -- `reading::edges::doubles` meets its contract: the nodes left decide for all.
 -- Assumes nothing.
-use mathlib.Core.Path.{_≡_, refl, sym, _∙_}
+use mathlib.Core.Path.{_≡_, sym, _∙_}
 use Prim.Native.Nat.{_+_, _≤_}
 use native.Mathlib.Omega.{arith}
 use borrow.Author.Tests.{not-true, not-false}
@@ -10,9 +10,6 @@ use Rattle.parsing.proofs.Laws.Search.{refuse-none, refuse-fails, refuse-next}
 use Rattle.reading.proofs.Steps.Edge.{doubles-none, doubles-chain}
 use Rattle.reading.proofs.edges.doubles.Statement.{statement}
 use Rattle.reading.proofs.edges.doubles.Tie as tie
-use Rattle.reading.proofs.edges.doubles.Reads as reads
-use Rattle.reading.proofs.edges.doubles.Lts as lts
-use Rattle.reading.proofs.edges.doubled.Reads as doubled-reads
 
 abbrev Inv-loop : tie.InvT-loop
 Inv-loop file outline property nodes left₀ node₀ left node = (doublesOf file outline ≡ refuseFirst 10 (doubledOf file outline) left node) × (node + left ≤ 64)

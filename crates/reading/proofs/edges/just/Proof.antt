@@ -1,6 +1,6 @@
 -- `reading::edges::just` meets its contract: the table has the transition's place, which is within the file.
 -- Assumes nothing.
-use mathlib.Core.Path.{_≡_, sym, ap, _∙_}
+use mathlib.Core.Path.{_≡_, ap, _∙_}
 use Prim.Native.Nat.{ℕ, _+_, _*_, _/_, _≤_}
 use native.Mathlib.Omega.{arith}
 use lib.Dec.{eqb}
@@ -10,9 +10,6 @@ use Rattle.reading.proofs.Steps.Edge.{transition-within, transition-ent
 use borrow.Author.Needs.{needs}
 use Rattle.reading.proofs.edges.just.Statement.{statement}
 use Rattle.reading.proofs.edges.just.Tie as tie
-use Rattle.reading.proofs.edges.just.Reads as reads
-use Rattle.reading.proofs.edges.just.Lts as lts
-use Rattle.parsing.proofs.records.byte_at.Reads as byte-at-reads
 
 -- what the table says of the transition
 entry : (c : tie.After-shared-slice-known) → getD (c .before .args .t3) (c .before .args .t) 0 ≡ transitionAt (c .before .args .file .now) (c .before .args .outline) (c .before .args .t)

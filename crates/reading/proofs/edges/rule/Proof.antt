@@ -6,10 +6,6 @@ use Rattle.reading.proofs.Steps.Edge.{rule-invariance, rule-rises, rule
 use borrow.Author.Needs.{needs}
 use Rattle.reading.proofs.edges.rule.Statement.{statement}
 use Rattle.reading.proofs.edges.rule.Tie as tie
-use Rattle.reading.proofs.edges.rule.Reads as reads
-use Rattle.reading.proofs.edges.rule.Lts as lts
-use Rattle.reading.proofs.edges.chain_rule.Reads as chain-rule-reads
-use Rattle.reading.proofs.edges.descends.Reads as descends-reads
 
 mul-diagram : tie.Need-mul-diagram
 mul-diagram c = search needs

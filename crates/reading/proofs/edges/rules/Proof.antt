@@ -1,21 +1,15 @@
 -- `reading::edges::rules` meets its contract: the edges left decide for all.
 -- Assumes nothing.
-use mathlib.Core.Path.{_≡_, refl, sym, subst, _∙_}
-use Prim.Native.Nat.{ℕ, _+_, _-_, _*_, _<_, _≤_}
+use mathlib.Core.Path.{_≡_, refl, sym, _∙_}
+use Prim.Native.Nat.{_+_, _≤_}
 use native.Mathlib.Omega.{arith}
 use borrow.Author.Tests.{not-true, not-false}
-use lib.ListN.{length}
-use Rattle.parsing.specs.Record.{fieldA}
 use Rattle.parsing.specs.Search.{refuseFirst}
 use Rattle.reading.specs.Edge.{ruleOf, rulesOf}
 use Rattle.parsing.proofs.Laws.Search.{refuse-none, refuse-fails, refuse-next}
 use Rattle.reading.proofs.Steps.Edge.{edge-fits}
 use Rattle.reading.proofs.edges.rules.Statement.{statement}
 use Rattle.reading.proofs.edges.rules.Tie as tie
-use Rattle.reading.proofs.edges.rules.Reads as reads
-use Rattle.reading.proofs.edges.rules.Lts as lts
-use Rattle.parsing.proofs.sections.transition_places.Reads as transition-places-reads
-use Rattle.reading.proofs.edges.rule.Reads as rule-reads
 
 abbrev Inv-loop : tie.InvT-loop
 Inv-loop file outline places left₀ at₀ left at = (rulesOf file outline ≡ refuseFirst 9 (ruleOf file outline) left at) × (at + left ≡ outline .edge + outline .edges) × (outline .edge ≤ at)

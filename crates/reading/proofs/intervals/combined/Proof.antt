@@ -6,11 +6,6 @@ use Rattle.reading.specs.Interval.{combine}
 use borrow.Author.Needs.{needs}
 use Rattle.reading.proofs.intervals.combined.Statement.{statement}
 use Rattle.reading.proofs.intervals.combined.Tie as tie
-use Rattle.reading.proofs.intervals.combined.Reads as reads
-use Rattle.reading.proofs.intervals.combined.Lts as lts
-use Rattle.integers.proofs.intervals.difference.Reads as difference-reads
-use Rattle.integers.proofs.intervals.product.Reads as product-reads
-use Rattle.integers.proofs.intervals.sum.Reads as sum-reads
 
 sum-requires : tie.Need-sum-requires
 sum-requires c κs = search needs

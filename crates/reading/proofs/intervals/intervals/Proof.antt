@@ -8,10 +8,6 @@ use Rattle.reading.proofs.Laws.Interval.{analysis-ahead}
 use Rattle.reading.proofs.Steps.Interval.{Scan, scan-begins, scan-over, scan-skip, scan-out, scan-next}
 use Rattle.reading.proofs.intervals.intervals.Statement.{statement}
 use Rattle.reading.proofs.intervals.intervals.Tie as tie
-use Rattle.reading.proofs.intervals.intervals.Reads as reads
-use Rattle.reading.proofs.intervals.intervals.Lts as lts
-use Rattle.parsing.proofs.kinds.signature_at.Reads as signature-at-reads
-use Rattle.reading.proofs.intervals.analyse.Reads as analyse-reads
 
 abbrev Inv-loop : tie.InvT-loop
 Inv-loop file records at₀ at = Scan file at

@@ -6,9 +6,6 @@ use Rattle.reading.proofs.Steps.Interval.{join-other}
 use borrow.Author.Needs.{needs}
 use Rattle.reading.proofs.intervals.join.Statement.{statement}
 use Rattle.reading.proofs.intervals.join.Tie as tie
-use Rattle.reading.proofs.intervals.join.Reads as reads
-use Rattle.reading.proofs.intervals.join.Lts as lts
-use Rattle.reading.proofs.intervals.combined.Reads as combined-reads
 
 enum-told : tie.Need-enum-told
 enum-told c = search needs

@@ -5,14 +5,11 @@ use mathlib.Core.Path.{sym}
 use Rattle.reading.proofs.Steps.Interval.{leaf-other}
 use Prim.Native.Nat.{_+_, _*_}
 use Rattle.reading.specs.Interval.{leafOf}
-use mir.Syntax.{w16, w64}
+use mir.Syntax.{w64}
 use Rattle.integers.proofs.Laws.Parts.{back}
 use borrow.Author.Needs.{needs}
 use Rattle.reading.proofs.intervals.leaf.Statement.{statement}
 use Rattle.reading.proofs.intervals.leaf.Tie as tie
-use Rattle.reading.proofs.intervals.leaf.Reads as reads
-use Rattle.reading.proofs.intervals.leaf.Lts as lts
-use Rattle.parsing.proofs.records.wide_value_at.Reads as wide-value-at-reads
 
 enum-told : tie.Need-enum-told
 enum-told c = search needs

@@ -5,9 +5,6 @@ use Rattle.reading.specs.Interval.{ownOf}
 use borrow.Author.Needs.{needs}
 use Rattle.reading.proofs.intervals.own.Statement.{statement}
 use Rattle.reading.proofs.intervals.own.Tie as tie
-use Rattle.reading.proofs.intervals.own.Reads as reads
-use Rattle.reading.proofs.intervals.own.Lts as lts
-use Rattle.integers.proofs.intervals.in_bounds.Reads as in-bounds-reads
 
 in-bounds-requires : tie.Need-in-bounds-requires
 in-bounds-requires c κs = search needs

@@ -1,22 +1,16 @@
 -- `reading::states::range_size` meets its contract: the offset of the range's high end is below 65,536.
 -- Assumes nothing.
-use mathlib.Core.Path.{_≡_, sym, ap, _∙_}
-use Prim.Native.Nat.{ℕ, _+_, _*_}
+use mathlib.Core.Path.{_≡_, ap, _∙_}
+use Prim.Native.Nat.{ℕ, _+_}
 use native.Mathlib.Omega.{arith}
 use mir.Syntax.{w16}
-use mir.Val.{SFits}
 use Rattle.integers.specs.Radix.{offsetOf}
 use Rattle.integers.proofs.Laws.Parts.{back}
 use Rattle.integers.proofs.Laws.Radix.{offset-small}
-use Rattle.parsing.specs.Record.{valueB, valueC}
 use Rattle.reading.specs.States.{sizeOf}
 use borrow.Author.Needs.{needs}
 use Rattle.reading.proofs.states.range_size.Statement.{statement}
 use Rattle.reading.proofs.states.range_size.Tie as tie
-use Rattle.reading.proofs.states.range_size.Reads as reads
-use Rattle.reading.proofs.states.range_size.Lts as lts
-use Rattle.integers.proofs.radix.offset_of.Reads as offset-of-reads
-use Rattle.parsing.proofs.records.value_at.Reads as value-at-reads
 
 mul-value-at : tie.Need-mul-value-at
 mul-value-at c = search needs

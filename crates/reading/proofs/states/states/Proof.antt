@@ -2,17 +2,13 @@
 -- Assumes nothing.
 use native.Mathlib.Omega.{arith}
 use mathlib.Core.Path.{refl, sym, ap, _∙_, _≡_}
-use Prim.Native.Nat.{ℕ, _+_, _*_, _<_, _≤_}
+use Prim.Native.Nat.{ℕ, _+_, _*_, _<_, _≤_, _^_}
 use Rattle.reading.specs.States.{statesOf}
 use native.Mathlib.Nat.{mul-le-mul, lt-of-le-of-lt}
 use lib.Dec.{lit<}
-use Prim.Native.Nat.{_^_}
 use Rattle.reading.proofs.Steps.States.{states-none, states-over, states-step}
 use Rattle.reading.proofs.states.states.Statement.{statement}
 use Rattle.reading.proofs.states.states.Tie as tie
-use Rattle.reading.proofs.states.states.Reads as reads
-use Rattle.reading.proofs.states.states.Lts as lts
-use Rattle.reading.proofs.states.range_size.Reads as range-size-reads
 
 product-fits : (a b : ℕ) → a ≤ 1048576 → b ≤ 65536 → a * b < 2 ^ 64
 product-fits a b p q = lt-of-le-of-lt (mul-le-mul p q) (lit< tt)

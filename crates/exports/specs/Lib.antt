@@ -1,1 +1,2 @@
+-- What the library answers.
 pub mod Answer

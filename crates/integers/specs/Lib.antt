@@ -1,3 +1,4 @@
+-- The definitions, by topic.
 pub mod Bytes
 pub mod Interval
 pub mod Floor

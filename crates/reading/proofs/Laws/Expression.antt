@@ -19,7 +19,7 @@ use Rattle.parsing.specs.Walk.{andThen, inSequence, walkOf, span}
 use Rattle.parsing.proofs.Laws.Walk.{walk-opens, walk-deepest, walk-bound}
 use Rattle.parsing.proofs.Laws.Span.{walk-span}
 use Rattle.reading.specs.Readable.{Expression, Operands, Opened}
-use Rattle.reading.proofs.Laws.Interval.{Judged, analysis-opens, analysis-bounded, analysis-walk}
+use Rattle.reading.proofs.Laws.Interval.{Analysed, analysis-opens, analysis-bounded, analysis-walk}
 
 -- ---- parts in sequence, from the first on
 module _ (part : ℕ → Walked) (end : ℕ) where
@@ -46,14 +46,14 @@ module _ (part : ℕ → Walked) (end : ℕ) where
 
 -- ---- the operands
 module _ (file : List ℕ) (vars levels at end : ℕ) where
-  operands-of : {i : Interval} → Judged file levels at end i → (n : ℕ) → signatureAt file at .operands ≡ n
+  operands-of : {i : Interval} → Analysed file levels at end i → (n : ℕ) → signatureAt file at .operands ≡ n
       → inSequence (walkOf file vars levels (signatureAt file at .over)) n (at + 1) ≡ End end → Operands file vars levels at end i
-  operands-of (Judged.none m e) n is s = Operands.none m e
-  operands-of (Judged.one {j} m l) n is s =
+  operands-of (Analysed.none m e) n is s = Operands.none m e
+  operands-of (Analysed.one {j} m l) n is s =
       let z : n ≡ 1 = omega arith in
       let walk = walkOf file vars levels (signatureAt file at .over) in
       Operands.one m (record { walks = sequence-one walk end (at + 1) (subst (λ (k : ℕ). inSequence walk k (at + 1) ≡ End end) z s); bounds = l })
-  operands-of (Judged.two {mid} {j} {k} m l r) n is s =
+  operands-of (Analysed.two {mid} {j} {k} m l r) n is s =
       let z : n ≡ 2 = omega arith in
       let walk = walkOf file vars levels (signatureAt file at .over) in
       let f = sequence-first walk end 1 (at + 1) (subst (λ (k : ℕ). inSequence walk k (at + 1) ≡ End end) z s) in

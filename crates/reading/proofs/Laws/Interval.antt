@@ -30,11 +30,11 @@ use Rattle.reading.specs.declared.intervals.Analysis.the-variants.{Withi
 use Rattle.reading.specs.Interval.{unit, leafOf, joinOf, ownOf, andInterval, byOperands, analysisOf}
 
 -- where an interval comes from: the record itself, or its operands, one level further in
-pub data Judged (file : List ℕ) (levels at end : ℕ) : Interval → Type 0 where
-  none : signatureAt file at .operands ≡ 0 → end ≡ at + 1 → Judged file levels at end (leafOf file at (formAt file at))
-  one : {j : Interval} → signatureAt file at .operands ≡ 1 → analysisOf file levels (at + 1) ≡ Within j end → Judged file levels at end unit
+pub data Analysed (file : List ℕ) (levels at end : ℕ) : Interval → Type 0 where
+  none : signatureAt file at .operands ≡ 0 → end ≡ at + 1 → Analysed file levels at end (leafOf file at (formAt file at))
+  one : {j : Interval} → signatureAt file at .operands ≡ 1 → analysisOf file levels (at + 1) ≡ Within j end → Analysed file levels at end unit
   two : {mid : ℕ} {j k : Interval} → signatureAt file at .operands ≡ 2 → analysisOf file levels (at + 1) ≡ Within j mid → analysisOf file levels mid ≡ Within k end
-      → Judged file levels at end (joinOf (kindAt file at) (formAt file at) j k)
+      → Analysed file levels at end (joinOf (kindAt file at) (formAt file at) j k)
 
 operands-most : (f : Form) → signatureOf f .operands ≤ 2
 unfolding signatureOf
@@ -59,41 +59,41 @@ module _ (j : Interval) (e : ℕ) where
 
   module _ (file : List ℕ) (levels at : ℕ) where
     one-opens : signatureAt file at .operands ≡ 1 → (w : Analysis) → analysisOf file levels (at + 1) ≡ w → andInterval w (λ i end. ownOf unit end at) ≡ Within j e
-        → Bounded j × Judged file levels at e j
+        → Bounded j × Analysed file levels at e j
     one-opens n (Analysis.Within i end) is q =
         let o = own-opens unit end at q in
-        (o .2, subst (Judged file levels at e) (o .0) (one n (is ∙ ap (Within i) (o .1))))
+        (o .2, subst (Analysed file levels at e) (o .0) (one n (is ∙ ap (Within i) (o .1))))
     one-opens n (Analysis.Out place) is q = let z : _≡_ {A = ℕ} 0 1 = cc in absurd (omega arith)
 
     right-opens : signatureAt file at .operands ≡ 2 → (i : Interval) (mid : ℕ) → analysisOf file levels (at + 1) ≡ Within i mid → (w : Analysis) → analysisOf file levels mid ≡ w
-        → andInterval w (λ k end. ownOf (joinOf (kindAt file at) (formAt file at) i k) end at) ≡ Within j e → Bounded j × Judged file levels at e j
+        → andInterval w (λ k end. ownOf (joinOf (kindAt file at) (formAt file at) i k) end at) ≡ Within j e → Bounded j × Analysed file levels at e j
     right-opens n i mid left (Analysis.Within k end) is q =
         let o = own-opens (joinOf (kindAt file at) (formAt file at) i k) end at q in
-        (o .2, subst (Judged file levels at e) (o .0) (two n left (is ∙ ap (Within k) (o .1))))
+        (o .2, subst (Analysed file levels at e) (o .0) (two n left (is ∙ ap (Within k) (o .1))))
     right-opens n i mid left (Analysis.Out place) is q = let z : _≡_ {A = ℕ} 0 1 = cc in absurd (omega arith)
 
     two-opens : signatureAt file at .operands ≡ 2 → (w : Analysis) → analysisOf file levels (at + 1) ≡ w
         → andInterval w (λ i next. andInterval (analysisOf file levels next) λ k end. ownOf (joinOf (kindAt file at) (formAt file at) i k) end at) ≡ Within j e
-        → Bounded j × Judged file levels at e j
+        → Bounded j × Analysed file levels at e j
     two-opens n (Analysis.Within i mid) is q = right-opens n i mid is (analysisOf file levels mid) refl q
     two-opens n (Analysis.Out place) is q = let z : _≡_ {A = ℕ} 0 1 = cc in absurd (omega arith)
 
-    by-opens : (n : ℕ) → signatureAt file at .operands ≡ n → n ≤ 2 → byOperands file at (analysisOf file levels) n ≡ Within j e → Bounded j × Judged file levels at e j
+    by-opens : (n : ℕ) → signatureAt file at .operands ≡ n → n ≤ 2 → byOperands file at (analysisOf file levels) n ≡ Within j e → Bounded j × Analysed file levels at e j
     unfolding byOperands
     by-opens zero n l q =
         let o = own-opens (leafOf file at (formAt file at)) (at + 1) at q in
         let ends = o .1 in
-        (o .2, subst (Judged file levels at e) (o .0) (none n (omega arith)))
+        (o .2, subst (Analysed file levels at e) (o .0) (none n (omega arith)))
     by-opens (suc zero) n l q = one-opens n (analysisOf file levels (at + 1)) refl q
     by-opens (suc (suc zero)) n l q = two-opens n (analysisOf file levels (at + 1)) refl q
     by-opens (suc (suc (suc m))) n l q = absurd (omega arith)
 
-    pub analysis-opens : analysisOf file (suc levels) at ≡ Within j e → (at < length file / 8) × Bounded j × Judged file levels at e j
+    pub analysis-opens : analysisOf file (suc levels) at ≡ Within j e → (at < length file / 8) × Bounded j × Analysed file levels at e j
     unfolding analysisOf
     analysis-opens q = go (ltb at (length file / 8)) refl q
       where
         go : (b : Bool) → ltb at (length file / 8) ≡ b → cond b (byOperands file at (analysisOf file levels) (signatureAt file at .operands)) (Out at) ≡ Within j e
-            → (at < length file / 8) × Bounded j × Judged file levels at e j
+            → (at < length file / 8) × Bounded j × Analysed file levels at e j
         go true l w = let o = by-opens (signatureAt file at .operands) refl (operands-most (formAt file at)) w in (ltb-true _ _ l, o .0, o .1)
         go false l w = let z : _≡_ {A = ℕ} 0 1 = cc in absurd (omega arith)
 
@@ -112,11 +112,11 @@ module _ (file : List ℕ) (levels at end : ℕ)
   part-from : (k : ℕ) → drop (8 * k) (drop (8 * at) file) ≡ drop (8 * (at + k)) file
   part-from k = let d : 8 * at + 8 * k ≡ 8 * (at + k) = omega arith in drop-drop (8 * k) (8 * at) file ∙ rw d
 
-  judged-span : {i : Interval} → Judged file levels at end i → end ≡ at + spans (span levels) (signatureAt file at .operands) 1 (drop (8 * at) file)
+  analysed-span : {i : Interval} → Analysed file levels at end i → end ≡ at + spans (span levels) (signatureAt file at .operands) 1 (drop (8 * at) file)
   unfolding spans
-  judged-span (none n e) = rw n e
-  judged-span (one {j} n l) = rw (n, part-from 1) (let z = ih (at + 1) end j l in omega arith)
-  judged-span (two {mid} {j} {k} n l r) =
+  analysed-span (none n e) = rw n e
+  analysed-span (one {j} n l) = rw (n, part-from 1) (let z = ih (at + 1) end j l in omega arith)
+  analysed-span (two {mid} {j} {k} n l r) =
       let y = ih (at + 1) mid j l in
       let z = ih mid end k r in
       let m : mid ≡ at + (1 + span levels (drop (8 * (at + 1)) file)) = omega arith in
@@ -127,7 +127,7 @@ unfolding span
 analysis-span file zero at end i q = absurd (analysis-deepest i end file at q)
 analysis-span file (suc levels) at end i q =
     let z : getD (drop (8 * at) file) 0 0 ≡ getD file (8 * at) 0 = getD-drop (8 * at) file 0 0 ∙ rw add-zero in
-    rw z (judged-span file levels at end (analysis-span file levels) (analysis-opens i end file levels at q .2))
+    rw z (analysed-span file levels at end (analysis-span file levels) (analysis-opens i end file levels at q .2))
 
 pub analysis-walk : (file : List ℕ) (vars levels want at end : ℕ) (j : Interval) (e : ℕ)
     → walkOf file vars levels want at ≡ Walked.End end → analysisOf file levels at ≡ Within j e → e ≡ end
@@ -141,7 +141,7 @@ module _ (file : List ℕ) where
   analysis-within zero at end i q = absurd (analysis-deepest i end file at q)
   analysis-within (suc levels) at end i q = let o = analysis-opens i end file levels at q in go (o .0) (analysis-within levels) (o .2)
     where
-      go : at < length file / 8 → ((x y : ℕ) (j : Interval) → analysisOf file levels x ≡ Within j y → y ≤ length file / 8) → {j : Interval} → Judged file levels at end j → end ≤ length file / 8
+      go : at < length file / 8 → ((x y : ℕ) (j : Interval) → analysisOf file levels x ≡ Within j y → y ≤ length file / 8) → {j : Interval} → Analysed file levels at end j → end ≤ length file / 8
       go l ih (none n e) = omega arith
       go l ih (one {j} n q) = ih (at + 1) end j q
       go l ih (two {mid} {j} {k} n p q) = ih mid end k q

@@ -1,3 +1,5 @@
+-- `parsing::walk::walk` meets its contract, by the tests in their order; in the loop the operands left say what all of them do. The measure is the
+-- levels left. Assumes nothing.
 use mathlib.Core.Path.{_≡_, refl, sym, _∙_}
 use native.Mathlib.Omega.{arith}
 use borrow.Author.Needs.{needs}

@@ -1,4 +1,4 @@
--- The proof of the cycle of calls {judge}. The measure is the levels left.
+-- `reading::intervals::analyse` meets its contract: the analysis of each operand says what that of the record does. The measure is the levels left.
 -- Assumes nothing.
 use native.Mathlib.Omega.{arith}
 use mathlib.Core.Path.{sym, ap, _∙_}
@@ -21,14 +21,14 @@ use Rattle.parsing.proofs.kinds.signature_of.Reads as signature-of-reads
 use Rattle.reading.proofs.intervals.+analyse.{statement}
 use Rattle.reading.proofs.intervals.+analyse.Tie.{close}
 
-abbrev μ-judge : Measures 1 analyse-kinds.ps ℕ
-μ-judge κs a = a .1 .0
+abbrev μ-analyse : Measures 1 analyse-kinds.ps ℕ
+μ-analyse κs a = a .1 .0
 
 abbrev analyse-at : ℕ → In 1 analyse-kinds.ps
-analyse-at t = and 1 analyse-kinds.ps (is 1 analyse-kinds.ps μ-judge t) analyse.Pre
+analyse-at t = and 1 analyse-kinds.ps (is 1 analyse-kinds.ps μ-analyse t) analyse.Pre
 
 abbrev analyse-below : ℕ → In 1 analyse-kinds.ps
-analyse-below t = and 1 analyse-kinds.ps (falls 1 analyse-kinds.ps _<_ μ-judge t) analyse.Pre
+analyse-below t = and 1 analyse-kinds.ps (falls 1 analyse-kinds.ps _<_ μ-analyse t) analyse.Pre
 
 abbrev others : ℕ → analyse-lts.Claims
 others t = (form-of-reads.Asked, form-of-reads.Learnt, signature-of-reads.Asked, signature-of-reads.Learnt, leaf-reads.Asked, leaf-reads.Learnt, own-reads.Asked, own-reads.Learnt, analyse-below t, analyse.Post, join-reads.Asked, join-reads.Learnt)
@@ -112,7 +112,7 @@ analyse-returns-7 : (t : ℕ) → analyse-lts.Need-returns-7 (others t) (analyse
 analyse-returns-7 t c = sym (analyse-step _ _ _ (c .before .before .before .before .before .signature-of .ensures ∙ ap signatureOf (c .before .before .before .before .before .before .form-of .ensures)) _ (c .before .before .before .before .before .before .before .before .if2 .left) (c .before .before .before .before .before .before .before .before .before .if1 .left) ∙ by-out _ _ _ _ _ (c .before .before .before .before .if3 .left) (sym (c .before .before .before .analyse .ensures) ∙ c .before .left2 .given .1))
 
 pub +analyse-spec : {M : Type 1} → statement M
-+analyse-spec = close μ-judge λ t. analyse-lts.spec (others t)
++analyse-spec = close μ-analyse λ t. analyse-lts.spec (others t)
     (analyse-at t)
     analyse.Post
     (analyse-returns t)

@@ -1,4 +1,5 @@
 -- Laws of the definitions, for the proofs here and in the crates above.
+pub mod Kind
 pub mod Walk
 pub mod Span
 pub mod Search

@@ -5,11 +5,12 @@ use mathlib.Core.List.{List, [], _∷_}
 use Prim.Native.Nat.{ℕ, _+_, _/_, _<_, _≤_}
 use lib.ListN.{length}
 use Rattle.integers.specs.declared.Interval.{Interval}
+use Rattle.parsing.specs.declared.kinds.Form.the-variants.{Variable}
 use Rattle.parsing.specs.declared.walk.Walked.{Walked}
 use Rattle.parsing.specs.declared.outline.Outline.{Outline}
 use Rattle.parsing.specs.Record.{kindAt, fieldA, fieldB, fieldC, fieldD, kindIs}
 use Rattle.parsing.specs.Kind.{number, truth, formAt, signatureAt}
-use Rattle.parsing.specs.Walk.{expressionFields, inSequence, walkOf, truthOf}
+use Rattle.parsing.specs.Walk.{inSequence, walkOf, truthOf}
 use Rattle.parsing.specs.Section.{transitionOf, nodeOf}
 use Rattle.reading.specs.declared.intervals.Analysis.{Analysis}
 use Rattle.reading.specs.Interval.{unit, leafOf, joinOf, analysisOf}
@@ -30,11 +31,11 @@ pub data Operands (file : List ℕ) (vars levels at end : ℕ) : Interval → Ty
   two : {mid : ℕ} {j k : Interval} → signatureAt file at .operands ≡ 2 → Expression file vars levels (signatureAt file at .over) (at + 1) mid j
       → Expression file vars levels (signatureAt file at .over) mid end k → Operands file vars levels at end (joinOf (kindAt file at) (formAt file at) j k)
 
--- its own record and its operands
+-- its own record, which if it is a variable is one of the file's, and its operands
 pub record Opened (file : List ℕ) (vars levels want at end : ℕ) (i : Interval) : Type 0 where
   pub here : at < length file / 8
   pub sort : signatureAt file at .sort ≡ want
-  pub fields : expressionFields file vars at ≡ true
+  pub variable : formAt file at ≡ Variable → fieldA file at < vars
   pub operands : Operands file vars levels at end i
 
 -- ---- the start

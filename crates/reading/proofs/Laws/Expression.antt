@@ -16,6 +16,7 @@ use Rattle.parsing.specs.declared.walk.Walked.{Walked}
 use Rattle.parsing.specs.declared.walk.Walked.the-variants.{End}
 use Rattle.parsing.specs.Kind.{signatureAt}
 use Rattle.parsing.specs.Walk.{andThen, inSequence, walkOf, span}
+use Rattle.parsing.proofs.Laws.Kind.{variable-named}
 use Rattle.parsing.proofs.Laws.Walk.{walk-opens, walk-deepest, walk-bound}
 use Rattle.parsing.proofs.Laws.Span.{walk-span}
 use Rattle.reading.specs.Readable.{Expression, Operands, Opened}
@@ -68,7 +69,7 @@ module _ (file : List ℕ) (vars levels at end : ℕ) where
       record {
         here = w .here;
         sort = w .fit;
-        fields = w .right;
+        variable = λ f. variable-named file vars at f (w .right);
         operands = operands-of (analysis-opens i end file levels at (x .bounds) .2) (signatureAt file at .operands) refl (w .operands);
       }
 

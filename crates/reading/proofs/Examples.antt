@@ -1,5 +1,6 @@
--- What `readOf` answers on the marked examples of document 01, A to J and "Others", and on files that each pin one reading of it down: one
--- table, computed by antt, and one theorem over its rows. A file is written as the list of its records. Assumes nothing.
+-- The marked examples of document 01, A to J and "Others", read as it says, and files that each pin down one choice in reading it: one table of files
+-- and answers, which antt computes, and one theorem, that at each of its rows `readOf` gives the answer. A file is written as the list of its records.
+-- Assumes nothing.
 use mathlib.Core.Path.{_≡_, refl, sym, ap, _∙_}
 use mathlib.Core.List.{List, [], _∷_, _++_, map, flatten, List·Memᴰ, List·Memᴰ·head, List·Memᴰ·tail, head-eq-of-cons-eq, tail-eq-of-cons-eq}
 use Prim.Native.Nat.{ℕ, _*_, _/_, _%_}
@@ -31,7 +32,7 @@ bytes n =
 abbrev given : ℕ → List ℕ
 given n = bytes (n * 0x10000)
 
--- a record by its kind, a, b, c and d
+-- a record of this kind, by its a, b, c and d
 abbrev entry : ℕ → ℕ → ℕ → ℕ → ℕ → List ℕ
 entry kind a b c d = kind ∷ a ∷ b % 256 ∷ b / 256 ∷ c % 256 ∷ c / 256 ∷ d ∷ 0 ∷ []
 
@@ -143,11 +144,11 @@ J =
 abbrev over : List (List ℕ) → List (List ℕ)
 over variables = variables ++ (start ∷ true ∷ property 1 0 ∷ true ∷ node ∷ true ∷ [])
 
--- one variable, in 0..2: of 7 records
+-- the same behind one variable in 0..2: 7 records
 abbrev small : List (List ℕ)
 small = over (range 0 2 ∷ [])
 
--- the small file with another start
+-- the small file with another start expression
 abbrev starting : List (List ℕ) → List (List ℕ)
 starting expression = take 2 small ++ expression ++ drop 3 small
 
@@ -199,17 +200,18 @@ marked =
     (starting (vanishes 1000 1001), refused 8 3) ∷
     []
 
-abbrev readings : List Row
-readings =
+-- what the paper leaves to choose, or says in half a sentence
+abbrev choices : List Row
+choices =
     -- byte 7 is a field, and so is b of a property that is no wait-for: not zero, they are 4
     (set small 0 (bytes 0x0100000002000001), refused 4 0) ∷
     (set small 3 (property 1 1), refused 4 3) ∷
     -- 3..2 is no range, -2..-1 is one
     (set small 0 (range 3 2), refused 4 0) ∷
     (set small 0 (given 0x0100feffffff), readable 1 3 0 3 5 1 7 0) ∷
-    -- a wait-for with 33 phases is 4, not 5; one with a single phase has node 0 alone
-    (set small 3 (property 2 33), refused 4 3) ∷
-    (take 3 small ++ (property 2 1 ∷ true ∷ drop 4 small), readable 1 3 0 3 6 1 8 0) ∷
+    -- a number may hold a truth by an indicator only
+    (starting (plain 0x27 ∷ plain 0x15 ∷ true ∷ constant 1 ∷ []), readable 1 6 0 6 8 1 10 0) ∷
+    (starting (plain 0x27 ∷ true ∷ constant 1 ∷ []), refused 3 3) ∷
     -- 12 variables pass; a 13th is tried for its fields, then it is one too many
     (over (replicate 12 (range 0 0)), readable 12 14 0 14 16 1 18 0) ∷
     (over (replicate 12 (range 0 0) ++ (range 1 0 ∷ [])), refused 4 12) ∷
@@ -219,7 +221,10 @@ readings =
     (starting (nested 16 (constant 0)), refused 3 18) ∷
     (starting (nested 16 (entry 0x20 1 0 0 0)), refused 4 18) ∷
     (starting (nested 16 true), refused 5 18) ∷
-    -- too few nodes are 3, at the record count or at the record where a node must stand; one more than a wait-for's phases is 5
+    -- a wait-for with 33 phases is 4, not 5; one with a single phase has node 0 alone
+    (set small 3 (property 2 33), refused 4 3) ∷
+    (take 3 small ++ (property 2 1 ∷ true ∷ drop 4 small), readable 1 3 0 3 6 1 8 0) ∷
+    -- too few nodes are 3, at the record count or at the record where a node must stand; more than a wait-for's phases are 5
     (take 5 small, refused 3 5) ∷
     (take 34 H ++ drop 38 H, refused 3 34) ∷
     (take 38 H ++ (node ∷ true ∷ drop 38 H), refused 5 38) ∷
@@ -227,12 +232,16 @@ readings =
     (D ++ (single 0 3 0 ∷ []), refused 4 32) ∷
     (D ++ (single 1 2 0 ∷ []), refused 4 32) ∷
     (D ++ (node ∷ true ∷ []), refused 3 32) ∷
-    -- a variable assigned twice is 6 at the second assignment, and an edge that repeats another but for d is 6
+    -- a variable assigned twice is 6 at the second assignment, and so is an edge that differs from one before it in d alone
     (take 13 A ++ drop 9 A, refused 6 13) ∷
     (D ++ (single 0 2 1 ∷ []), refused 6 32) ∷
-    -- of a sum that goes out of bounds like both its operands the left one is named; 8 comes before 9
+    -- of a sum that goes out of bounds with both its operands the left operand is named; 8 comes before 9
     (starting (plain 0x27 ∷ plain 0x12 ∷ product 1000 1001 ++ product 1000 1001 ++ (constant 0 ∷ [])), refused 8 4) ∷
     (take 4 F ++ product 1000 1001 ++ drop 5 F, refused 8 4) ∷
+    -- edges of an invariance lead from any node, none of them double; a wait-for has no double edge either
+    (B ++ (single 0 0 0 ∷ []), readable 1 5 1 13 17 1 21 1) ∷
+    (B ++ (double 0 0 0 ∷ []), refused 9 21) ∷
+    (set H 38 (double 0 2 1), refused 9 38) ∷
     -- in a chain no edge leaves node 0; to its own node a single edge may lead, a double one not
     (D ++ (single 0 0 0 ∷ []), refused 9 32) ∷
     (twoSteps ++ (single 1 2 2 ∷ []), readable 1 5 2 21 26 3 38 3) ∷
@@ -244,7 +253,7 @@ readings =
     []
 
 abbrev table : List Row
-table = marked ++ readings
+table = marked ++ choices
 
 -- ---- the theorem
 -- what reading answers, row by row, is the table's other column

@@ -2,6 +2,7 @@
 pub mod Fits
 pub mod Interval
 pub mod Expression
+pub mod Outside
 pub mod Stage
 pub mod States
 pub mod Scan

@@ -1,10 +1,11 @@
--- What is promised of a readable file, for the layers above: its expressions, transitions, nodes, edges and double transitions.
+-- What is promised of a readable file, for the layers above: its expressions, transitions, nodes, edges and double transitions; and what refusal 8 says.
 use mathlib.Core.Path.{_≡_}
 use mathlib.Core.Bool.{true, false}
 use mathlib.Core.List.{List, [], _∷_}
 use Prim.Native.Nat.{ℕ, _+_, _/_, _<_, _≤_}
 use lib.ListN.{length}
 use Rattle.integers.specs.declared.Interval.{Interval}
+use Rattle.integers.specs.Interval.{inBounds}
 use Rattle.parsing.specs.declared.kinds.Form.the-variants.{Variable}
 use Rattle.parsing.specs.declared.walk.Walked.{Walked}
 use Rattle.parsing.specs.declared.outline.Outline.{Outline}
@@ -106,3 +107,17 @@ pub record DoubleTransition (file : List ℕ) (o : Outline) (node : ℕ) : Type 
   pub edge-carries : fieldA file (o .edge + edge) ≡ transition
   pub only : (e : ℕ) → e < o .edges → fieldB file (o .edge + e) ≡ node → fieldD file (o .edge + e) ≡ 1 → fieldA file (o .edge + e) ≡ transition
   pub never-single : (e : ℕ) → e < o .edges → fieldB file (o .edge + e) ≡ node → fieldA file (o .edge + e) ≡ transition → fieldD file (o .edge + e) ≡ 1
+
+-- ---- what refusal 8 says
+-- the own interval of the record at `at`, whose operands' intervals are in bounds: "a constant's own value, a variable's range", or that of a sum,
+-- difference or product
+pub data Own (file : List ℕ) (at : ℕ) : Interval → Type 0 where
+  leaf : signatureAt file at .operands ≡ 0 → Own file at (leafOf file at (formAt file at))
+  join : (levels : ℕ) {mid end : ℕ} {j k : Interval} → signatureAt file at .operands ≡ 2 → analysisOf file levels (at + 1) ≡ Analysis.Within j mid
+      → analysisOf file levels mid ≡ Analysis.Within k end → Own file at (joinOf (kindAt file at) (formAt file at) j k)
+
+-- it goes out of bounds
+pub record Outside (file : List ℕ) (at : ℕ) : Type 0 where
+  pub interval : Interval
+  pub own : Own file at interval
+  pub out : inBounds interval ≡ false

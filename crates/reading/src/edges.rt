@@ -71,7 +71,7 @@ fn descends(file: &[u8], at: usize) -> bool
     word_at(file, 8 * at + 4) <= from
 }
 
-// Whether a chain's edge that descending obeys the rules of double edges.
+// Whether a chain's edge that descends obeys the rules of double edges.
 fn chain_rule(file: &[u8], outline: Outline, places: [usize; 32], at: usize) -> bool
     requires { ⌜ EdgeFits (now file) outline places at ⌝ }
     ensures { λ r. ⌜ r ≡ chainRuleOf (now (file .entry)) outline at ⌝ }

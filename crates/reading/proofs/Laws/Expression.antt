@@ -42,7 +42,7 @@ module _ (part : ℕ → Walked) (end : ℕ) where
   unfolding inSequence
   sequence-done at e = cc
 
-  sequence-one : (at : ℕ) → inSequence part 1 at ≡ End end → part at ≡ End end
+  pub sequence-one : (at : ℕ) → inSequence part 1 at ≡ End end → part at ≡ End end
   sequence-one at e = let f = sequence-first 0 at e in f .first ∙ ap End (sequence-done (f .mid) (f .rest))
 
 -- ---- the operands

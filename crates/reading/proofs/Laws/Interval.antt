@@ -36,7 +36,7 @@ pub data Analysed (file : List ℕ) (levels at end : ℕ) : Interval → Type 0 
   two : {mid : ℕ} {j k : Interval} → signatureAt file at .operands ≡ 2 → analysisOf file levels (at + 1) ≡ Within j mid → analysisOf file levels mid ≡ Within k end
       → Analysed file levels at end (joinOf (kindAt file at) (formAt file at) j k)
 
-operands-most : (f : Form) → signatureOf f .operands ≤ 2
+pub operands-most : (f : Form) → signatureOf f .operands ≤ 2
 unfolding signatureOf
 operands-most Constant = omega arith
 operands-most Variable = omega arith

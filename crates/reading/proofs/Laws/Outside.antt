@@ -1,0 +1,207 @@
+-- Refusal 8 says what it means: the record at its place has an own interval that goes out of bounds.
+--     analysis-out      of an expression that walks to its end
+--     intervals-out     of a file that parses
+-- Assumes nothing.
+use mathlib.Core.Path.{_≡_, refl, sym, ap, subst, _∙_}
+use mathlib.Core.Logic.{_⊎_, inl, inr}
+use mathlib.Core.Bool.{Bool, true, false, cond, and-eq-true-iff}
+use mathlib.Core.List.{List}
+use Prim.Native.Nat.{ℕ, zero, suc, _+_, _-_, _/_, _<_, _≤_}
+use native.Mathlib.Omega.{arith}
+use borrow.Author.Tests.{lt-ltb, le-ltb, ltb-true, eq-eqb, ne-eqb, eqb-true}
+use lib.ListN.{length, getD, set, replicate}
+use lib.Dec.{ltb, eqb}
+use Rattle.integers.specs.declared.Interval.{Interval}
+use Rattle.integers.specs.Interval.{inBounds}
+use Rattle.parsing.specs.declared.walk.Walked.{Walked}
+use Rattle.parsing.specs.declared.walk.Walked.the-variants.{End}
+use Rattle.parsing.specs.declared.outline.Outline.{Outline}
+use Rattle.parsing.specs.Record.{kindAt, fieldA, kindIs}
+use Rattle.parsing.specs.Kind.{none, number, truth, within, formOf, signatureOf, formAt, signatureAt}
+use Rattle.parsing.specs.Walk.{andThen, inSequence, walkOf, truthOf}
+use Rattle.parsing.specs.Section.{noFields, variableFields, transitionFields, assignmentFields, edgeFields, variablesOf, assignmentsOf, transitionOf, transitionsOf, expressionsOf, phasesOr, nodeOf, nodesOf, repeatedOf, edgesOf}
+use Rattle.parsing.proofs.Laws.Walk.{walk-opens, walk-deepest}
+use Rattle.parsing.proofs.Laws.Section.{items-through, sequence-through}
+use Rattle.parsing.proofs.Laws.Outline.{Parses}
+use Rattle.reading.specs.declared.intervals.Analysis.{Analysis}
+use Rattle.reading.specs.declared.intervals.Analysis.the-variants.{Within, Out}
+use Rattle.reading.specs.Interval.{unit, leafOf, joinOf, ownOf, andInterval, byOperands, analysisOf, andExpression, analysedFrom, intervalsOf}
+use Rattle.reading.specs.Readable.{Own, Outside}
+use Rattle.reading.proofs.Laws.Interval.{operands-most, analysis-walk, analysis-ahead}
+use Rattle.reading.proofs.Laws.Expression.{sequence-first, sequence-one}
+
+module _ (file : List ℕ) (place : ℕ) where
+  own-out : (i : Interval) (end at : ℕ) → ownOf i end at ≡ Out place → (at ≡ place) × (inBounds i ≡ false)
+  unfolding ownOf
+  own-out i end at q = go (inBounds i) refl q
+    where
+      go : (b : Bool) → inBounds i ≡ b → cond b (Within i end) (Out at) ≡ Out place → (at ≡ place) × (inBounds i ≡ false)
+      go true t e = let z : _≡_ {A = ℕ} 0 1 = cc in absurd (omega arith)
+      go false t e = (cc, t)
+
+  -- an indicator's interval is in bounds
+  unit-inside : inBounds unit ≡ false → ⊥
+  unfolding inBounds
+  unit-inside e = let z : _≡_ {A = ℕ} 0 1 = cc in omega arith
+
+  outside : (at : ℕ) (i : Interval) → at ≡ place → Own file at i → inBounds i ≡ false → Outside file place
+  outside at i e o b = subst (Outside file) e (record { interval = i; own = o; out = b })
+
+  module _ (vars levels over at end : ℕ) (ih : (x y : ℕ) → walkOf file vars levels over x ≡ End y → analysisOf file levels x ≡ Out place → Outside file place) where
+    abbrev walk : ℕ → Walked
+    walk = walkOf file vars levels over
+
+    one-out : walk (at + 1) ≡ End end → (a : Analysis) → analysisOf file levels (at + 1) ≡ a → andInterval a (λ i end. ownOf unit end at) ≡ Out place → Outside file place
+    one-out w (Analysis.Within i e) is q = absurd (unit-inside (own-out unit e at q .1))
+    one-out w (Analysis.Out p) is q = ih (at + 1) end w (is ∙ q)
+
+    right-out : signatureAt file at .operands ≡ 2 → (i : Interval) (mid : ℕ) → analysisOf file levels (at + 1) ≡ Within i mid → walk mid ≡ End end → (a : Analysis) → analysisOf file levels mid ≡ a
+        → andInterval a (λ k e. ownOf (joinOf (kindAt file at) (formAt file at) i k) e at) ≡ Out place → Outside file place
+    right-out n i mid l w (Analysis.Within k e) is q =
+        let o = own-out (joinOf (kindAt file at) (formAt file at) i k) e at q in
+        outside at (joinOf (kindAt file at) (formAt file at) i k) (o .0) (Own.join levels n l is) (o .1)
+    right-out n i mid l w (Analysis.Out p) is q = ih mid end w (is ∙ q)
+
+    two-out : signatureAt file at .operands ≡ 2 → inSequence walk 2 (at + 1) ≡ End end → (a : Analysis) → analysisOf file levels (at + 1) ≡ a
+        → andInterval a (λ i next. andInterval (analysisOf file levels next) λ k e. ownOf (joinOf (kindAt file at) (formAt file at) i k) e at) ≡ Out place → Outside file place
+    two-out n w (Analysis.Within i mid) is q =
+        let f = sequence-first walk end 1 (at + 1) w in
+        let z = analysis-walk file vars levels over (at + 1) (f .mid) i mid (f .first) is in
+        right-out n i mid is (subst (λ (x : ℕ). walk x ≡ End end) (sym z) (sequence-one walk end (f .mid) (f .rest))) (analysisOf file levels mid) refl q
+    two-out n w (Analysis.Out p) is q = let f = sequence-first walk end 1 (at + 1) w in ih (at + 1) (f .mid) (f .first) (is ∙ q)
+
+    operands-out : (n : ℕ) → signatureAt file at .operands ≡ n → n ≤ 2 → inSequence walk n (at + 1) ≡ End end → byOperands file at (analysisOf file levels) n ≡ Out place → Outside file place
+    unfolding byOperands
+    operands-out zero n l w q =
+        let o = own-out (leafOf file at (formAt file at)) (at + 1) at q in
+        outside at (leafOf file at (formAt file at)) (o .0) (Own.leaf n) (o .1)
+    operands-out (suc zero) n l w q = one-out (sequence-one walk end (at + 1) w) (analysisOf file levels (at + 1)) refl q
+    operands-out (suc (suc zero)) n l w q = two-out n w (analysisOf file levels (at + 1)) refl q
+    operands-out (suc (suc (suc m))) n l w q = absurd (omega arith)
+
+  pub analysis-out : (vars levels want at end : ℕ) → walkOf file vars levels want at ≡ End end → analysisOf file levels at ≡ Out place → Outside file place
+  unfolding analysisOf
+  analysis-out vars zero want at end w q = absurd (walk-deepest file vars want at end w)
+  analysis-out vars (suc levels) want at end w q =
+      let o = walk-opens file vars levels want at end w in
+      operands-out vars levels (signatureAt file at .over) at end (analysis-out vars levels (signatureAt file at .over)) (signatureAt file at .operands) refl (operands-most (formAt file at))
+      (o .operands) (simp (lt-ltb _ _ (o .here)) at q)
+
+-- ---- a file that parses
+-- the scan that refuses is followed from the first record on: where it comes to an expression, that is refused, or the scan goes on behind it
+module _ (file : List ℕ) (place : ℕ) where
+  record Left (at : ℕ) : Type 0 where
+    left : ℕ
+    enough : length file / 8 ≤ at + left
+    refuses : analysedFrom file left at ≡ Walked.Refused 8 place
+
+  -- the refusal was found, or lies from `at` on
+  abbrev Ahead : ℕ → Type 0
+  Ahead at = Outside file place ⊎ Left at
+
+  onward : (x y : ℕ) → (Left x → Ahead y) → Ahead x → Ahead y
+  onward x y f (inl o) = inl o
+  onward x y f (inr l) = f l
+
+  module _ (at : ℕ) (here : at < length file / 8) where
+    skip : (left : ℕ) → length file / 8 ≤ at + left → signatureAt file at .sort ≡ none → analysedFrom file left at ≡ Walked.Refused 8 place → Left (at + 1)
+    unfolding analysedFrom
+    skip zero l u q = let z : _≡_ {A = ℕ} 0 1 = cc in absurd (omega arith)
+    skip (suc left) l u q = record { left = left; enough = omega arith; refuses = simp (lt-ltb _ _ here, eq-eqb _ _ u) at q }
+
+    module _ (vars want end : ℕ) (w : walkOf file vars 16 want at ≡ End end) (some : signatureAt file at .sort ≡ none → ⊥) where
+      over : (left : ℕ) (a : Analysis) → analysisOf file 16 at ≡ a → length file / 8 ≤ at + suc left → andExpression a (analysedFrom file left) ≡ Walked.Refused 8 place → Ahead end
+      over left (Analysis.Within i e) is l q =
+          let z = analysis-walk file vars 16 want at end i e w is in
+          let a = analysis-ahead file 16 at i e is in
+          inr (record { left = left; enough = omega arith; refuses = rw (← z) q })
+      over left (Analysis.Out p) is l q = let z : p ≡ place = cc in inl (analysis-out file place vars 16 want at end w (is ∙ ap Out z))
+
+      step : (left : ℕ) → length file / 8 ≤ at + left → analysedFrom file left at ≡ Walked.Refused 8 place → Ahead end
+      unfolding analysedFrom
+      step zero l q = let z : _≡_ {A = ℕ} 0 1 = cc in absurd (omega arith)
+      step (suc left) l q = over left (analysisOf file 16 at) refl l (simp (lt-ltb _ _ here, ne-eqb _ _ some) at q)
+
+  module _ (vars : ℕ) where
+    expression-ahead : (want at end : ℕ) → (want ≡ none → ⊥) → walkOf file vars 16 want at ≡ End end → Ahead at → Ahead end
+    expression-ahead want at end some w =
+        onward at end λ l.
+        let o = walk-opens file vars 15 want at end w in
+        step at (o .here) vars want end w (λ u. some (sym (o .fit) ∙ u)) (l .left) (l .enough) (l .refuses)
+
+    head-ahead : (kind at : ℕ) → signatureOf (formOf kind) .sort ≡ none → kindIs file kind at ≡ true → Ahead at → Ahead (at + 1)
+    unfolding kindIs
+    head-ahead kind at u k =
+        onward at (at + 1) λ l.
+        let b = and-eq-true-iff (ltb at (length file / 8)) (eqb (kindAt file at) kind) .0 k in
+        let z : kindAt file at ≡ kind = eqb-true _ _ (b .1) in
+        inr (skip at (ltb-true _ _ (b .0)) (l .left) (l .enough) (rw z u) (l .refuses))
+
+    -- a record of a section and the truth that follows it
+    item-ahead : (kind at end : ℕ) → signatureOf (formOf kind) .sort ≡ none → kindIs file kind at ≡ true → walkOf file vars 16 truth (at + 1) ≡ End end → Ahead at → Ahead end
+    item-ahead kind at end u k w p = expression-ahead truth (at + 1) end (λ z. omega arith) w (head-ahead kind at u k p)
+
+    module _ (end : ℕ) where
+      assigned-ahead : (at : ℕ) (next : ℕ → Walked) → ((x : ℕ) → next x ≡ End end → Ahead x → Ahead end) → (k f d : Bool) (w : Walked) → kindIs file 0x04 at ≡ k
+          → walkOf file vars 16 number (at + 1) ≡ w → cond k (cond f (cond d (andThen w next) (Walked.Refused 6 at)) (Walked.Refused 4 at)) (End at) ≡ End end → Ahead at → Ahead end
+      unfolding within formOf signatureOf
+      assigned-ahead at next h true true true (Walked.End x) k w e p = h x e (expression-ahead number (at + 1) x (λ z. omega arith) w (head-ahead 0x04 at refl k p))
+      assigned-ahead at next h true true true (Walked.Refused n q) k w e p = let z : _≡_ {A = ℕ} 0 1 = cc in absurd (omega arith)
+      assigned-ahead at next h true true false w k is e p = let z : _≡_ {A = ℕ} 0 1 = cc in absurd (omega arith)
+      assigned-ahead at next h true false d w k is e p = let z : _≡_ {A = ℕ} 0 1 = cc in absurd (omega arith)
+      assigned-ahead at next h false f d w k is e p = let z : at ≡ end = cc in subst Ahead z p
+
+      last-ahead : (at : ℕ) (k f : Bool) → cond k (cond f (Walked.Refused 6 at) (Walked.Refused 4 at)) (End at) ≡ End end → Ahead at → Ahead end
+      last-ahead at true true e p = let z : _≡_ {A = ℕ} 0 1 = cc in absurd (omega arith)
+      last-ahead at true false e p = let z : _≡_ {A = ℕ} 0 1 = cc in absurd (omega arith)
+      last-ahead at false f e p = let z : at ≡ end = cc in subst Ahead z p
+
+      assignments-ahead : (left : ℕ) (marks : List ℕ) (at : ℕ) → assignmentsOf file vars left marks at ≡ End end → Ahead at → Ahead end
+      unfolding assignmentsOf
+      assignments-ahead zero marks at e p = last-ahead at (kindIs file 0x04 at) (assignmentFields file vars at) e p
+      assignments-ahead (suc left) marks at e p =
+          let a = fieldA file at in
+          assigned-ahead at (assignmentsOf file vars left (set marks a 1)) (assignments-ahead left (set marks a 1))
+          (kindIs file 0x04 at) (assignmentFields file vars at) (eqb (getD marks a 0) 0) (walkOf file vars 16 number (at + 1)) refl refl e p
+
+      guarded-ahead : (at : ℕ) (w : Walked) → walkOf file vars 16 truth (at + 1) ≡ w → andThen w (assignmentsOf file vars 12 (replicate 12 0)) ≡ End end → kindIs file 0x03 at ≡ true → Ahead at → Ahead end
+      unfolding within formOf signatureOf
+      guarded-ahead at (Walked.End i) is e k p = assignments-ahead 12 (replicate 12 0) i e (item-ahead 0x03 at i refl k is p)
+      guarded-ahead at (Walked.Refused n q) is e k p = let z : _≡_ {A = ℕ} 0 1 = cc in absurd (omega arith)
+
+      transition-ahead : (at : ℕ) → kindIs file 0x03 at ≡ true → transitionOf file vars at ≡ End end → Ahead at → Ahead end
+      unfolding transitionOf
+      transition-ahead at k e p = guarded-ahead at (walkOf file vars 16 truth (at + 1)) refl e k p
+
+  -- behind the last record nothing is refused
+  over-end : (at left : ℕ) → length file / 8 ≤ at → analysedFrom file left at ≡ Walked.Refused 8 place → ⊥
+  unfolding analysedFrom
+  over-end at zero l q = let z : _≡_ {A = ℕ} 0 1 = cc in omega arith
+  over-end at (suc left) l q = let y = simp (le-ltb _ _ l) at q in let z : _≡_ {A = ℕ} 0 1 = cc in omega arith
+
+  pub intervals-out : (o : Outline) → Parses file o → intervalsOf file ≡ Walked.Refused 8 place → Outside file place
+  unfolding intervalsOf variablesOf transitionsOf nodesOf edgesOf within formOf signatureOf
+  intervals-out o p q =
+      let single : (x : ℕ) → (i y : ℕ) → cond (repeatedOf file i x (i - x)) (Walked.Refused 6 i) (End (i + 1)) ≡ End y → i + 1 ≡ y
+        = λ x i y e. next i y (repeatedOf file i x (i - x)) e in
+      let v = items-through file 0x01 (variableFields file) (λ at. End (at + 1)) Ahead (λ i x k e a. let z : i + 1 ≡ x = cc in subst Ahead z (head-ahead (o .vars) 0x01 i refl k a))
+      (o .vars) (o .vars) 12 0 0 (p .variables) (inr (record { left = length file / 8; enough = omega arith; refuses = q })) in
+      let s = item-ahead (o .vars) 0x02 (o .vars) (o .transition) refl (p .start-named) (p .start) v in
+      let t = items-through file 0x03 (transitionFields file) (transitionOf file (o .vars)) Ahead (λ i x k e a. transition-ahead (o .vars) x i k e a)
+      (o .transitions) (o .property) 32 0 (o .transition) (p .transitions) s in
+      let c = sequence-through (truthOf file (o .vars)) Ahead (λ i x w a. expression-ahead (o .vars) truth i x (λ z. omega arith) w a)
+      (o .node) (expressionsOf file (o .property)) (o .property + 1) (p .truths) (head-ahead (o .vars) 0x05 (o .property) refl (p .property-named) t) in
+      let n = items-through file 0x06 (noFields file) (nodeOf file (o .vars)) Ahead (λ i x k w a. item-ahead (o .vars) 0x06 i x refl k w a)
+      (o .nodes) (o .edge) (phasesOr file (o .property) 32) 0 (o .node) (p .nodes) c in
+      let e = items-through file 0x07 (edgeFields file (o .transitions) (o .nodes)) (λ at. cond (repeatedOf file at (o .edge) (at - o .edge)) (Walked.Refused 6 at) (End (at + 1))) Ahead
+      (λ i x k w a. subst Ahead (single (o .edge) i x w) (head-ahead (o .vars) 0x07 i refl k a))
+      (o .edges) (length file / 8) 512 0 (o .edge) (p .edges) n in
+      done e
+    where
+      next : (i y : ℕ) (b : Bool) → cond b (Walked.Refused 6 i) (End (i + 1)) ≡ End y → i + 1 ≡ y
+      next i y true e = let z : _≡_ {A = ℕ} 0 1 = cc in absurd (omega arith)
+      next i y false e = cc
+
+      done : Ahead (length file / 8) → Outside file place
+      done (inl found) = found
+      done (inr l) = absurd (over-end (length file / 8) (l .left) (omega arith) (l .refuses))

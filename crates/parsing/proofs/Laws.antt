@@ -8,3 +8,4 @@ pub mod Place
 pub mod Outline
 pub mod Refusal
 pub mod Parsed
+pub mod Through

@@ -6,22 +6,21 @@ use mathlib.Core.Path.{_≡_, refl, sym, ap, subst, _∙_}
 use mathlib.Core.Logic.{_⊎_, inl, inr}
 use mathlib.Core.Bool.{Bool, true, false, cond, and-eq-true-iff}
 use mathlib.Core.List.{List}
-use Prim.Native.Nat.{ℕ, zero, suc, _+_, _-_, _/_, _<_, _≤_}
+use Prim.Native.Nat.{ℕ, zero, suc, _+_, _/_, _<_, _≤_}
 use native.Mathlib.Omega.{arith}
 use borrow.Author.Tests.{lt-ltb, le-ltb, ltb-true, eq-eqb, ne-eqb, eqb-true}
-use lib.ListN.{length, getD, set, replicate}
+use lib.ListN.{length}
 use lib.Dec.{ltb, eqb}
 use Rattle.integers.specs.declared.Interval.{Interval}
 use Rattle.integers.specs.Interval.{inBounds}
 use Rattle.parsing.specs.declared.walk.Walked.{Walked}
 use Rattle.parsing.specs.declared.walk.Walked.the-variants.{End}
 use Rattle.parsing.specs.declared.outline.Outline.{Outline}
-use Rattle.parsing.specs.Record.{kindAt, fieldA, kindIs}
-use Rattle.parsing.specs.Kind.{none, number, truth, within, formOf, signatureOf, formAt, signatureAt}
-use Rattle.parsing.specs.Walk.{andThen, inSequence, walkOf, truthOf}
-use Rattle.parsing.specs.Section.{noFields, variableFields, transitionFields, assignmentFields, edgeFields, variablesOf, assignmentsOf, transitionOf, transitionsOf, expressionsOf, phasesOr, nodeOf, nodesOf, repeatedOf, edgesOf}
+use Rattle.parsing.specs.Record.{kindAt, kindIs}
+use Rattle.parsing.specs.Kind.{none, formOf, signatureOf, formAt, signatureAt}
+use Rattle.parsing.specs.Walk.{inSequence, walkOf}
 use Rattle.parsing.proofs.Laws.Walk.{walk-opens, walk-deepest}
-use Rattle.parsing.proofs.Laws.Section.{items-through, sequence-through}
+use Rattle.parsing.proofs.Laws.Through.{at-end}
 use Rattle.parsing.proofs.Laws.Outline.{Parses}
 use Rattle.reading.specs.declared.intervals.Analysis.{Analysis}
 use Rattle.reading.specs.declared.intervals.Analysis.the-variants.{Within, Out}
@@ -137,42 +136,6 @@ module _ (file : List ℕ) (place : ℕ) where
         let z : kindAt file at ≡ kind = eqb-true _ _ (b .1) in
         inr (skip at (ltb-true _ _ (b .0)) (l .left) (l .enough) (rw z u) (l .refuses))
 
-    -- a record of a section and the truth that follows it
-    item-ahead : (kind at end : ℕ) → signatureOf (formOf kind) .sort ≡ none → kindIs file kind at ≡ true → walkOf file vars 16 truth (at + 1) ≡ End end → Ahead at → Ahead end
-    item-ahead kind at end u k w p = expression-ahead truth (at + 1) end (λ z. omega arith) w (head-ahead kind at u k p)
-
-    module _ (end : ℕ) where
-      assigned-ahead : (at : ℕ) (next : ℕ → Walked) → ((x : ℕ) → next x ≡ End end → Ahead x → Ahead end) → (k f d : Bool) (w : Walked) → kindIs file 0x04 at ≡ k
-          → walkOf file vars 16 number (at + 1) ≡ w → cond k (cond f (cond d (andThen w next) (Walked.Refused 6 at)) (Walked.Refused 4 at)) (End at) ≡ End end → Ahead at → Ahead end
-      unfolding within formOf signatureOf
-      assigned-ahead at next h true true true (Walked.End x) k w e p = h x e (expression-ahead number (at + 1) x (λ z. omega arith) w (head-ahead 0x04 at refl k p))
-      assigned-ahead at next h true true true (Walked.Refused n q) k w e p = let z : _≡_ {A = ℕ} 0 1 = cc in absurd (omega arith)
-      assigned-ahead at next h true true false w k is e p = let z : _≡_ {A = ℕ} 0 1 = cc in absurd (omega arith)
-      assigned-ahead at next h true false d w k is e p = let z : _≡_ {A = ℕ} 0 1 = cc in absurd (omega arith)
-      assigned-ahead at next h false f d w k is e p = let z : at ≡ end = cc in subst Ahead z p
-
-      last-ahead : (at : ℕ) (k f : Bool) → cond k (cond f (Walked.Refused 6 at) (Walked.Refused 4 at)) (End at) ≡ End end → Ahead at → Ahead end
-      last-ahead at true true e p = let z : _≡_ {A = ℕ} 0 1 = cc in absurd (omega arith)
-      last-ahead at true false e p = let z : _≡_ {A = ℕ} 0 1 = cc in absurd (omega arith)
-      last-ahead at false f e p = let z : at ≡ end = cc in subst Ahead z p
-
-      assignments-ahead : (left : ℕ) (marks : List ℕ) (at : ℕ) → assignmentsOf file vars left marks at ≡ End end → Ahead at → Ahead end
-      unfolding assignmentsOf
-      assignments-ahead zero marks at e p = last-ahead at (kindIs file 0x04 at) (assignmentFields file vars at) e p
-      assignments-ahead (suc left) marks at e p =
-          let a = fieldA file at in
-          assigned-ahead at (assignmentsOf file vars left (set marks a 1)) (assignments-ahead left (set marks a 1))
-          (kindIs file 0x04 at) (assignmentFields file vars at) (eqb (getD marks a 0) 0) (walkOf file vars 16 number (at + 1)) refl refl e p
-
-      guarded-ahead : (at : ℕ) (w : Walked) → walkOf file vars 16 truth (at + 1) ≡ w → andThen w (assignmentsOf file vars 12 (replicate 12 0)) ≡ End end → kindIs file 0x03 at ≡ true → Ahead at → Ahead end
-      unfolding within formOf signatureOf
-      guarded-ahead at (Walked.End i) is e k p = assignments-ahead 12 (replicate 12 0) i e (item-ahead 0x03 at i refl k is p)
-      guarded-ahead at (Walked.Refused n q) is e k p = let z : _≡_ {A = ℕ} 0 1 = cc in absurd (omega arith)
-
-      transition-ahead : (at : ℕ) → kindIs file 0x03 at ≡ true → transitionOf file vars at ≡ End end → Ahead at → Ahead end
-      unfolding transitionOf
-      transition-ahead at k e p = guarded-ahead at (walkOf file vars 16 truth (at + 1)) refl e k p
-
   -- behind the last record nothing is refused
   over-end : (at left : ℕ) → length file / 8 ≤ at → analysedFrom file left at ≡ Walked.Refused 8 place → ⊥
   unfolding analysedFrom
@@ -180,28 +143,9 @@ module _ (file : List ℕ) (place : ℕ) where
   over-end at (suc left) l q = let y = simp (le-ltb _ _ l) at q in let z : _≡_ {A = ℕ} 0 1 = cc in omega arith
 
   pub intervals-out : (o : Outline) → Parses file o → intervalsOf file ≡ Walked.Refused 8 place → Outside file place
-  unfolding intervalsOf variablesOf transitionsOf nodesOf edgesOf within formOf signatureOf
-  intervals-out o p q =
-      let single : (x : ℕ) → (i y : ℕ) → cond (repeatedOf file i x (i - x)) (Walked.Refused 6 i) (End (i + 1)) ≡ End y → i + 1 ≡ y
-        = λ x i y e. next i y (repeatedOf file i x (i - x)) e in
-      let v = items-through file 0x01 (variableFields file) (λ at. End (at + 1)) Ahead (λ i x k e a. let z : i + 1 ≡ x = cc in subst Ahead z (head-ahead (o .vars) 0x01 i refl k a))
-      (o .vars) (o .vars) 12 0 0 (p .variables) (inr (record { left = length file / 8; enough = omega arith; refuses = q })) in
-      let s = item-ahead (o .vars) 0x02 (o .vars) (o .transition) refl (p .start-named) (p .start) v in
-      let t = items-through file 0x03 (transitionFields file) (transitionOf file (o .vars)) Ahead (λ i x k e a. transition-ahead (o .vars) x i k e a)
-      (o .transitions) (o .property) 32 0 (o .transition) (p .transitions) s in
-      let c = sequence-through (truthOf file (o .vars)) Ahead (λ i x w a. expression-ahead (o .vars) truth i x (λ z. omega arith) w a)
-      (o .node) (expressionsOf file (o .property)) (o .property + 1) (p .truths) (head-ahead (o .vars) 0x05 (o .property) refl (p .property-named) t) in
-      let n = items-through file 0x06 (noFields file) (nodeOf file (o .vars)) Ahead (λ i x k w a. item-ahead (o .vars) 0x06 i x refl k w a)
-      (o .nodes) (o .edge) (phasesOr file (o .property) 32) 0 (o .node) (p .nodes) c in
-      let e = items-through file 0x07 (edgeFields file (o .transitions) (o .nodes)) (λ at. cond (repeatedOf file at (o .edge) (at - o .edge)) (Walked.Refused 6 at) (End (at + 1))) Ahead
-      (λ i x k w a. subst Ahead (single (o .edge) i x w) (head-ahead (o .vars) 0x07 i refl k a))
-      (o .edges) (length file / 8) 512 0 (o .edge) (p .edges) n in
-      done e
+  unfolding intervalsOf
+  intervals-out o p q = done (at-end file o p Ahead (head-ahead (o .vars)) (expression-ahead (o .vars)) (inr (record { left = length file / 8; enough = omega arith; refuses = q })))
     where
-      next : (i y : ℕ) (b : Bool) → cond b (Walked.Refused 6 i) (End (i + 1)) ≡ End y → i + 1 ≡ y
-      next i y true e = let z : _≡_ {A = ℕ} 0 1 = cc in absurd (omega arith)
-      next i y false e = cc
-
       done : Ahead (length file / 8) → Outside file place
       done (inl found) = found
       done (inr l) = absurd (over-end (length file / 8) (l .left) (omega arith) (l .refuses))

@@ -16,7 +16,7 @@ use Rattle.parsing.specs.declared.outline.Parsed.{Parsed}
 use Rattle.parsing.specs.Record.{kindAt}
 use Rattle.parsing.specs.Kind.{none, formAt, signatureAt}
 use Rattle.parsing.specs.Outline.{parsedOf}
-use Rattle.parsing.specs.Refusal.{Refusal, Refuses}
+use Rattle.parsing.specs.Refusal.{Refuses}
 use Rattle.parsing.proofs.Laws.Refusal.{Refusing, walked, refused, by-test, refuses-more, walked-ends, parse-refuses}
 use Rattle.parsing.proofs.Laws.Outline.{Parses, parses}
 use Rattle.reading.specs.declared.Reading.{Reading}

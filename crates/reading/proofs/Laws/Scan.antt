@@ -17,10 +17,11 @@ use Rattle.parsing.specs.declared.outline.Outline.{Outline}
 use Rattle.parsing.specs.Record.{kindAt, fieldA, kindIs, zerosOf}
 use Rattle.parsing.specs.Kind.{none, number, truth, within, formOf, signatureOf, signatureAt}
 use Rattle.parsing.specs.Walk.{andThen, walkOf, truthOf}
-use Rattle.parsing.specs.Section.{noFields, variableFields, transitionFields, assignmentFields, variablesOf, assignmentsOf, transitionOf, transitionsOf, expressionsOf, phasesOr, nodeOf, nodesOf}
+use Rattle.parsing.specs.Section.{noFields, transitionFields, assignmentFields, assignmentsOf, transitionOf, transitionsOf, expressionsOf, phasesOr, nodeOf, nodesOf}
 use Rattle.parsing.proofs.Laws.Walk.{walk-opens}
-use Rattle.parsing.proofs.Laws.Section.{items-through, items-reach, sequence-through, sequence-reach}
+use Rattle.parsing.proofs.Laws.Section.{items-reach, sequence-reach}
 use Rattle.parsing.proofs.Laws.Parsed.{variables-most}
+use Rattle.parsing.proofs.Laws.Through as through
 use Rattle.reading.specs.declared.intervals.Analysis.{Analysis}
 use Rattle.reading.specs.Interval.{analysisOf, andExpression, analysedFrom, intervalsOf}
 use Rattle.reading.specs.Readable.{Expression, Start, Apart, Assignments, Transition, Claimed, Node}
@@ -69,24 +70,19 @@ module _ (file : List ℕ) (at : ℕ) (here : at < length file / 8) where
     step zero l p = absurd (omega arith)
     step (suc left) l p = over left (p .end) (analysisOf file 16 at) refl l (simp (lt-ltb _ _ here, ne-eqb _ _ some) at (p .is))
 
-module _ (file : List ℕ) (vars : ℕ) where
-  -- an expression of a sort, where the scan has come to it
-  passing : (want at end : ℕ) → (want ≡ none → ⊥) → walkOf file vars 16 want at ≡ Walked.End end → Scanned file at → Passing file vars want at end
-  passing want at end some w s =
-      let o = walk-opens file vars 15 want at end w in
-      step file at (o .here) vars want end w (λ u. some (sym (o .fit) ∙ u)) (s .left) (s .enough) (s .all)
+-- an expression of a sort, where the scan has come to it
+passing : (file : List ℕ) (vars want at end : ℕ) → (want ≡ none → ⊥) → walkOf file vars 16 want at ≡ Walked.End end → Scanned file at → Passing file vars want at end
+passing file vars want at end some w s =
+    let o = walk-opens file vars 15 want at end w in
+    step file at (o .here) vars want end w (λ u. some (sym (o .fit) ∙ u)) (s .left) (s .enough) (s .all)
 
-  -- a record that begins a section's item is passed over
-  head : (kind at : ℕ) → signatureOf (formOf kind) .sort ≡ none → kindIs file kind at ≡ true → Scanned file at → Scanned file (at + 1)
-  unfolding kindIs
-  head kind at u k s =
-      let b = and-eq-true-iff (ltb at (length file / 8)) (eqb (kindAt file at) kind) .0 k in
-      let z : kindAt file at ≡ kind = eqb-true _ _ (b .1) in
-      skip file at (ltb-true _ _ (b .0)) (s .left) (s .enough) (rw z u) (s .all)
-
-  node-passing : (at end : ℕ) → kindIs file 0x06 at ≡ true → nodeOf file vars at ≡ Walked.End end → Scanned file at → Passing file vars truth (at + 1) end
-  unfolding within formOf signatureOf
-  node-passing at end k w s = passing truth (at + 1) end (λ z. omega arith) w (head 0x06 at refl k s)
+-- a record that begins a section's item is passed over
+head : (file : List ℕ) (kind at : ℕ) → signatureOf (formOf kind) .sort ≡ none → kindIs file kind at ≡ true → Scanned file at → Scanned file (at + 1)
+unfolding kindIs
+head file kind at u k s =
+    let b = and-eq-true-iff (ltb at (length file / 8)) (eqb (kindAt file at) kind) .0 k in
+    let z : kindAt file at ≡ kind = eqb-true _ _ (b .1) in
+    skip file at (ltb-true _ _ (b .0)) (s .left) (s .enough) (rw z u) (s .all)
 
 -- ---- a transition's assignments
 -- none of the variables is marked
@@ -107,22 +103,20 @@ module _ (file : List ℕ) (vars end : ℕ) where
     variables : List ℕ
     assignments : Assignments file vars end at variables
     unmarked : Unmarked marks variables
-    rest : Scanned file end
 
-  assigned-none : (marks : List ℕ) (at : ℕ) → kindIs file 0x04 at ≡ false → at ≡ end → Scanned file at → Assigned marks at
-  assigned-none marks at k e s =
+  assigned-none : (marks : List ℕ) (at : ℕ) → kindIs file 0x04 at ≡ false → at ≡ end → Assigned marks at
+  assigned-none marks at k e =
       record {
         variables = [];
         assignments = subst (λ (x : ℕ). Assignments file vars end x []) (sym e) (Assignments.none (subst (λ (x : ℕ). kindIs file 0x04 x ≡ false) e k));
         unmarked = tt;
-        rest = subst (Scanned file) e s;
       }
 
   assigned-last : (marks : List ℕ) (at : ℕ) (k f : Bool) → kindIs file 0x04 at ≡ k
       → cond k (cond f (Walked.Refused 6 at) (Walked.Refused 4 at)) (Walked.End at) ≡ Walked.End end → Scanned file at → Assigned marks at
   assigned-last marks at true true k e s = let z : _≡_ {A = ℕ} 0 1 = cc in absurd (omega arith)
   assigned-last marks at true false k e s = let z : _≡_ {A = ℕ} 0 1 = cc in absurd (omega arith)
-  assigned-last marks at false f k e s = assigned-none marks at k (cc) s
+  assigned-last marks at false f k e s = assigned-none marks at k (cc)
 
   assigned-more : (marks : List ℕ) → vars ≤ length marks → (at : ℕ) (next : ℕ → Walked)
       → ((x : ℕ) → next x ≡ Walked.End end → Scanned file x → Assigned (set marks (fieldA file at) 1) x)
@@ -130,7 +124,7 @@ module _ (file : List ℕ) (vars end : ℕ) where
       → cond k (cond f (cond d (andThen w next) (Walked.Refused 6 at)) (Walked.Refused 4 at)) (Walked.End at) ≡ Walked.End end → Scanned file at → Assigned marks at
   unfolding assignmentFields within formOf signatureOf
   assigned-more marks m at next h true true true (Walked.End x) k f d w e s =
-      let v = passing file vars number (at + 1) x (λ z. omega arith) w (head file vars 0x04 at refl k s) in
+      let v = passing file vars number (at + 1) x (λ z. omega arith) w (head file 0x04 at refl k s) in
       let r = h x e (v .rest) in
       let below : fieldA file at < vars = ltb-true _ _ (and-eq-true-iff (ltb (fieldA file at) vars) (zerosOf file (8 * at + 2) 6) .0 f .0) in
       let a = apart marks (fieldA file at) (omega arith) (r .variables) (r .unmarked) in
@@ -138,12 +132,11 @@ module _ (file : List ℕ) (vars end : ℕ) where
         variables = fieldA file at ∷ r .variables;
         assignments = Assignments.more k below (v .expression) (r .assignments) (a .0);
         unmarked = (eqb-true _ _ d, a .1);
-        rest = r .rest;
       }
   assigned-more marks m at next h true true true (Walked.Refused n p) k f d w e s = let z : _≡_ {A = ℕ} 0 1 = cc in absurd (omega arith)
   assigned-more marks m at next h true true false w k f d is e s = let z : _≡_ {A = ℕ} 0 1 = cc in absurd (omega arith)
   assigned-more marks m at next h true false d w k f is it e s = let z : _≡_ {A = ℕ} 0 1 = cc in absurd (omega arith)
-  assigned-more marks m at next h false f d w k is it so e s = assigned-none marks at k (cc) s
+  assigned-more marks m at next h false f d w k is it so e s = assigned-none marks at k (cc)
 
   assigned-all : (left : ℕ) (marks : List ℕ) → vars ≤ length marks → (at : ℕ) → assignmentsOf file vars left marks at ≡ Walked.End end → Scanned file at → Assigned marks at
   unfolding assignmentsOf
@@ -164,7 +157,7 @@ module _ (file : List ℕ) (vars end : ℕ) where
       → kindIs file 0x03 at ≡ true → Scanned file at → Guarded at
   unfolding within formOf signatureOf
   guarded-by m at (Walked.End i) is e k s =
-      let g = passing file vars truth (at + 1) i (λ z. omega arith) is (head file vars 0x03 at refl k s) in
+      let g = passing file vars truth (at + 1) i (λ z. omega arith) is (head file 0x03 at refl k s) in
       record { behind = i; interval = g .interval; guard = g .expression; assigned = assigned-all 12 (replicate 12 0) m i e (g .rest) }
   guarded-by m at (Walked.Refused n p) is e k s = let z : _≡_ {A = ℕ} 0 1 = cc in absurd (omega arith)
 
@@ -172,32 +165,28 @@ module _ (file : List ℕ) (vars end : ℕ) where
   unfolding transitionOf
   guarded m at k e s = guarded-by m at (walkOf file vars 16 truth (at + 1)) refl e k s
 
--- ---- the sections of a readable file, in their order
+-- ---- the expressions of a readable file
 module _ (file : List ℕ) (o : Outline) (r : Stages file o) where
-  at-start : Scanned file (o .vars)
-  unfolding variablesOf within formOf signatureOf
-  at-start =
-      items-through file 0x01 (variableFields file) (λ at. Walked.End (at + 1)) (Scanned file)
-      (λ i x k e s. let z : i + 1 ≡ x = cc in subst (Scanned file) z (head file (o .vars) 0x01 i refl k s))
-      (o .vars) (o .vars) 12 0 0 (r .parsed .variables) (scanned file (r .intervals))
+  -- past an expression the scan goes on
+  rest-of : (want at end : ℕ) → (want ≡ none → ⊥) → walkOf file (o .vars) 16 want at ≡ Walked.End end → Scanned file at → Scanned file end
+  rest-of want at end some w s = passing file (o .vars) want at end some w s .rest
 
-  start-passing : Passing file (o .vars) truth (o .vars + 1) (o .transition)
-  unfolding within formOf signatureOf
-  start-passing =
-      passing file (o .vars) truth (o .vars + 1) (o .transition) (λ z. omega arith) (r .parsed .start)
-      (head file (o .vars) 0x02 (o .vars) refl (r .parsed .start-named) at-start)
+  first : Scanned file 0
+  first = scanned file (r .intervals)
 
   pub start-scanned : Start file o
-  start-scanned = record { interval = start-passing .interval; expression = start-passing .expression }
-
-  transition-next : (i x : ℕ) → kindIs file 0x03 i ≡ true → transitionOf file (o .vars) i ≡ Walked.End x → Scanned file i → Scanned file x
-  transition-next i x k e s = guarded file (o .vars) x (variables-most file o (r .parsed)) i k e s .assigned .rest
+  unfolding within formOf signatureOf
+  start-scanned =
+      let s = through.at-start file o (r .parsed) (Scanned file) (head file) rest-of first in
+      let p = passing file (o .vars) truth (o .vars + 1) (o .transition) (λ z. omega arith) (r .parsed .start) (head file 0x02 (o .vars) refl (r .parsed .start-named) s) in
+      record { interval = p .interval; expression = p .expression }
 
   pub transition-scanned : (t : ℕ) → t < o .transitions → Transition file o t
   unfolding transitionsOf transitionFields
   transition-scanned t l =
-      let n = items-reach file 0x03 (transitionFields file) (transitionOf file (o .vars)) (Scanned file) transition-next
-      (o .transitions) (o .property) 32 0 (o .transition) (r .parsed .transitions) (start-passing .rest) t (omega arith) in
+      let n = items-reach file 0x03 (transitionFields file) (transitionOf file (o .vars)) (Scanned file)
+      (λ i x k e s. through.transition-through file (o .vars) (Scanned file) (head file) rest-of x i k e s)
+      (o .transitions) (o .property) 32 0 (o .transition) (r .parsed .transitions) (through.at-transitions file o (r .parsed) (Scanned file) (head file) rest-of first) t (omega arith) in
       let g = guarded file (o .vars) (n .end) (variables-most file o (r .parsed)) (n .place) (n .named) (n .ends) (n .holds) in
       record {
         place = n .place;
@@ -212,32 +201,18 @@ module _ (file : List ℕ) (o : Outline) (r : Stages file o) where
         assignments = g .assigned .assignments;
       }
 
-  at-claims : Scanned file (o .property + 1)
-  unfolding transitionsOf within formOf signatureOf
-  at-claims =
-      head file (o .vars) 0x05 (o .property) refl (r .parsed .property-named)
-      (items-through file 0x03 (transitionFields file) (transitionOf file (o .vars)) (Scanned file) transition-next
-      (o .transitions) (o .property) 32 0 (o .transition) (r .parsed .transitions) (start-passing .rest))
-
-  claim-passing : (i x : ℕ) → truthOf file (o .vars) i ≡ Walked.End x → Scanned file i → Passing file (o .vars) truth i x
-  claim-passing i x w s = passing file (o .vars) truth i x (λ z. omega arith) w s
-
   pub claimed-scanned : (i : ℕ) → i < expressionsOf file (o .property) → Claimed file o i
   claimed-scanned i l =
-      let n = sequence-reach (truthOf file (o .vars)) (Scanned file) (λ x y w s. claim-passing x y w s .rest)
-      (o .node) (expressionsOf file (o .property)) (o .property + 1) (r .parsed .truths) at-claims i l in
-      let p = claim-passing (n .place) (n .behind) (n .ends) (n .holds) in
+      let n = sequence-reach (truthOf file (o .vars)) (Scanned file) (λ x y w s. rest-of truth x y (λ z. omega arith) w s)
+      (o .node) (expressionsOf file (o .property)) (o .property + 1) (r .parsed .truths) (through.at-claims file o (r .parsed) (Scanned file) (head file) rest-of first) i l in
+      let p = passing file (o .vars) truth (n .place) (n .behind) (λ z. omega arith) (n .ends) (n .holds) in
       record { place = n .place; end = n .behind; reached = n .reached; interval = p .interval; expression = p .expression }
 
-  at-nodes : Scanned file (o .node)
-  at-nodes =
-      sequence-through (truthOf file (o .vars)) (Scanned file) (λ x y w s. claim-passing x y w s .rest)
-      (o .node) (expressionsOf file (o .property)) (o .property + 1) (r .parsed .truths) at-claims
-
   pub node-scanned : (n : ℕ) → n < o .nodes → Node file o n
-  unfolding nodesOf
+  unfolding nodesOf within formOf signatureOf
   node-scanned n l =
-      let h = items-reach file 0x06 (noFields file) (nodeOf file (o .vars)) (Scanned file) (λ x y k w s. node-passing file (o .vars) x y k w s .rest)
-      (o .nodes) (o .edge) (phasesOr file (o .property) 32) 0 (o .node) (r .parsed .nodes) at-nodes n (omega arith) in
-      let p = node-passing file (o .vars) (h .place) (h .end) (h .named) (h .ends) (h .holds) in
+      let h = items-reach file 0x06 (noFields file) (nodeOf file (o .vars)) (Scanned file)
+      (λ i x k e s. through.node-through file (o .vars) (Scanned file) (head file) rest-of x i k e s)
+      (o .nodes) (o .edge) (phasesOr file (o .property) 32) 0 (o .node) (r .parsed .nodes) (through.at-nodes file o (r .parsed) (Scanned file) (head file) rest-of first) n (omega arith) in
+      let p = passing file (o .vars) truth (h .place + 1) (h .end) (λ z. omega arith) (h .ends) (head file 0x06 (h .place) refl (h .named) (h .holds)) in
       record { place = h .place; end = h .end; reached = h .reached; named = h .named; interval = p .interval; assertion = p .expression }

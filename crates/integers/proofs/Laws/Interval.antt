@@ -1,8 +1,8 @@
 -- Interval arithmetic is sound: a sum, a difference and a product of numbers lies in the interval over the operands' ends.
 -- One argument for all three: an operation that, in each operand, keeps what it gives between what it gives at the ends. Assumes nothing.
-use mathlib.Core.Path.{_≡_, refl}
+use mathlib.Core.Path.{_≡_}
 use mathlib.Core.Logic.{_⊎_, inl, inr}
-use mathlib.Core.Bool.{Bool, true, false, cond, _&&_}
+use mathlib.Core.Bool.{true, cond, and-eq-true-iff}
 use Prim.Native.Nat.{ℕ, suc}
 use native.Mathlib.Nat.{mul-le-mul-left}
 use lib.IntN.{ℤ, pos, negsuc, _+ℤ_, _-ℤ_, _*ℤ_, *ℤ-comm}
@@ -124,19 +124,15 @@ product-betweens = record {
 
 -- ---- bounds
 
-both : (a b : Bool) → a && b ≡ true → (a ≡ true) × (b ≡ true)
-both true b e = (refl, e)
-both false b e = (e, cc)
-
-both-in : (x : ℤ) → between (negsuc 999999) (pos 1000000) x ≡ true → In x bounds
-both-in x e = let b = both (leZ (negsuc 999999) x) (leZ x (pos 1000000)) e in record { above = omega ints; below = omega ints }
+between-in : (x : ℤ) → between (negsuc 999999) (pos 1000000) x ≡ true → In x bounds
+between-in x e = let b = and-eq-true-iff (leZ (negsuc 999999) x) (leZ x (pos 1000000)) .0 e in record { above = omega ints; below = omega ints }
 
 -- the test of bounds, as what it says of both ends
 pub bounded : {i : Interval} → inBounds i ≡ true → Bounded i
 unfolding inBounds
 bounded {i} e =
-    let b = both (between (negsuc 999999) (pos 1000000) (i .low)) (between (negsuc 999999) (pos 1000000) (i .high)) e in
-    record { low = both-in (i .low) (b .0); high = both-in (i .high) (b .1) }
+    let b = and-eq-true-iff (between (negsuc 999999) (pos 1000000) (i .low)) (between (negsuc 999999) (pos 1000000) (i .high)) .0 e in
+    record { low = between-in (i .low) (b .0); high = between-in (i .high) (b .1) }
 
 -- what lies in an interval in bounds lies in bounds
 pub in-bounds : {x : ℤ} {i : Interval} → Bounded i → In x i → In x bounds

@@ -3,7 +3,7 @@
 --     any-false, any-some, refuse-all     what the outcome says of each number
 -- Assumes nothing.
 use mathlib.Core.Path.{_≡_, refl, sym}
-use mathlib.Core.Bool.{Bool, true, false, cond, _||_}
+use mathlib.Core.Bool.{Bool, true, false, cond, _||_, false≢true}
 use Prim.Native.Nat.{ℕ, zero, suc, _+_, _-_, _<_, _≤_}
 use native.Mathlib.Numerals.{sub-one}
 use native.Mathlib.Omega.{arith}
@@ -44,11 +44,8 @@ module _ (test : ℕ → Bool) where
     refuse-next (suc n) at h t = rw (t, sub-one)
 
 -- ---- each number
-differ : true ≡ false → ⊥
-differ e = let z : _≡_ {A = ℕ} 0 1 = cc in omega arith
-
 neither : (a b : Bool) → (a || b) ≡ false → (a ≡ false) × (b ≡ false)
-neither true b e = absurd (differ e)
+neither true b e = absurd (false≢true (sym e))
 neither false b e = (refl, e)
 
 pub refuse-all : (number : ℕ) (test : ℕ → Bool) (end left at : ℕ) → refuseFirst number test left at ≡ Walked.End end → (i : ℕ) → i < left → test (at + i) ≡ true
@@ -78,7 +75,7 @@ pub record Some (test : ℕ → Bool) (n at : ℕ) : Type 0 where
 
 pub any-some : (test : ℕ → Bool) (n at : ℕ) → any test n at ≡ true → Some test n at
 unfolding any
-any-some test zero at e = absurd (differ (sym e))
+any-some test zero at e = absurd (false≢true e)
 any-some test (suc n) at e = go (test at) refl e (any-some test n (at + 1))
   where
     go : (b : Bool) → test at ≡ b → (b || any test n (at + 1)) ≡ true → (any test n (at + 1) ≡ true → Some test n (at + 1)) → Some test (suc n) at

@@ -29,7 +29,31 @@ pub kind-here : (file : List ℕ) (kind at : ℕ) → kindIs file kind at ≡ tr
 unfolding kindIs
 kind-here file kind at e = ltb-true at (length file / 8) (and-eq-true-iff (ltb at (length file / 8)) (eqb (kindAt file at) kind) .0 e .0)
 
--- ---- items in sequence, with what holds where each begins
+-- ---- a section that is counted, by induction over its items
+-- Q is shown behind the last item, and carried back past each item that passed its tests; `left` items more are allowed, and n lie before `at`
+module _ (file : List ℕ) (kind : ℕ) (fields : ℕ → Bool) (item : ℕ → Walked) (m end : ℕ) (Q : ℕ → ℕ → ℕ → Type 0) (base : (left : ℕ) → Q left m end)
+    (back : (left n at x : ℕ) → kindIs file kind at ≡ true → fields at ≡ true → item at ≡ End x → Q left (n + 1) x → Q (suc left) n at) where
+  stop : (left n at : ℕ) → Section.Items n at ≡ Section.Items m end → Q left n at
+  stop left n at e = let x : n ≡ m = cc in let y : at ≡ end = cc in rw (x, y) (base left)
+
+  last : (n at : ℕ) (k f : Bool) → cond k (cond f (Section.Refused 5 at) (Section.Refused 4 at)) (Section.Items n at) ≡ Section.Items m end → Q zero n at
+  last n at true true e = let z : _≡_ {A = ℕ} 0 1 = cc in absurd (omega arith)
+  last n at true false e = let z : _≡_ {A = ℕ} 0 1 = cc in absurd (omega arith)
+  last n at false f e = stop zero n at e
+
+  next : (left n at : ℕ) (rest : ℕ → Section) → ((x : ℕ) → rest x ≡ Section.Items m end → Q left (n + 1) x) → (k f : Bool) (w : Walked) → kindIs file kind at ≡ k → fields at ≡ f
+      → item at ≡ w → cond k (cond f (andItems w rest) (Section.Refused 4 at)) (Section.Items n at) ≡ Section.Items m end → Q (suc left) n at
+  next left n at rest h true true (Walked.End x) k f w e = back left n at x k f w (h x e)
+  next left n at rest h true true (Walked.Refused number place) k f w e = let z : _≡_ {A = ℕ} 0 1 = cc in absurd (omega arith)
+  next left n at rest h true false w k f is e = let z : _≡_ {A = ℕ} 0 1 = cc in absurd (omega arith)
+  next left n at rest h false f w k is it e = stop (suc left) n at e
+
+  items-induct : (left n at : ℕ) → itemsOf file kind fields item left n at ≡ Section.Items m end → Q left n at
+  unfolding itemsOf
+  items-induct zero n at e = last n at (kindIs file kind at) (fields at) e
+  items-induct (suc left) n at e =
+      next left n at (itemsOf file kind fields item left (n + 1)) (items-induct left (n + 1)) (kindIs file kind at) (fields at) (item at) refl refl refl e
+
 module _ (file : List ℕ) (kind : ℕ) (fields : ℕ → Bool) (item : ℕ → Walked) (P : ℕ → Type 0)
     (step : (i x : ℕ) → kindIs file kind i ≡ true → item i ≡ End x → P i → P x) where
   -- the item that i others lie before, from `at` on
@@ -43,42 +67,30 @@ module _ (file : List ℕ) (kind : ℕ) (fields : ℕ → Bool) (item : ℕ → 
     pub holds : P place
 
   module _ (m end : ℕ) where
-    last : (n at : ℕ) (k f : Bool) → cond k (cond f (Section.Refused 5 at) (Section.Refused 4 at)) (Section.Items n at) ≡ Section.Items m end → (at ≡ end) × (n ≡ m)
-    last n at true true e = let z : _≡_ {A = ℕ} 0 1 = cc in absurd (omega arith)
-    last n at true false e = let z : _≡_ {A = ℕ} 0 1 = cc in absurd (omega arith)
-    last n at false f e = (cc, cc)
-
-    through-next : (n at : ℕ) (next : ℕ → Section) → ((x : ℕ) → next x ≡ Section.Items m end → P x → P end) → (k f : Bool) (w : Walked) → kindIs file kind at ≡ k → item at ≡ w
-        → cond k (cond f (andItems w next) (Section.Refused 4 at)) (Section.Items n at) ≡ Section.Items m end → P at → P end
-    through-next n at next h true true (Walked.End x) k w e p = h x e (step at x k w p)
-    through-next n at next h true true (Walked.Refused number place) k w e p = let z : _≡_ {A = ℕ} 0 1 = cc in absurd (omega arith)
-    through-next n at next h true false w k is e p = let z : _≡_ {A = ℕ} 0 1 = cc in absurd (omega arith)
-    through-next n at next h false f w k is e p = let z : at ≡ end = cc in subst P z p
-
     pub items-through : (left n at : ℕ) → itemsOf file kind fields item left n at ≡ Section.Items m end → P at → P end
-    unfolding itemsOf
-    items-through zero n at e p = subst P (last n at (kindIs file kind at) (fields at) e .0) p
-    items-through (suc left) n at e p =
-        through-next n at (itemsOf file kind fields item left (n + 1)) (items-through left (n + 1)) (kindIs file kind at) (fields at) (item at) refl refl e p
+    items-through = items-induct file kind fields item m end (λ left n at. P at → P end) (λ left p. p) (λ left n at x k f w h p. h (step at x k w p))
 
-    reach-next : (left n at : ℕ) (k f : Bool) (w : Walked) → kindIs file kind at ≡ k → fields at ≡ f → item at ≡ w
-        → cond k (cond f (andItems w (itemsOf file kind fields item left (n + 1))) (Section.Refused 4 at)) (Section.Items n at) ≡ Section.Items m end
-        → ((x i : ℕ) → itemsOf file kind fields item left (n + 1) x ≡ Section.Items m end → P x → n + 1 + i < m → Reached i x)
+    reach-back : (n at x : ℕ) → kindIs file kind at ≡ true → fields at ≡ true → item at ≡ End x → (P x → (i : ℕ) → n + 1 + i < m → Reached i x)
         → P at → (i : ℕ) → n + i < m → Reached i at
     unfolding inSequence
-    reach-next left n at true true (Walked.End x) k f w e h p zero l = record { place = at; end = x; reached = refl; named = k; right = f; ends = w; holds = p }
-    reach-next left n at true true (Walked.End x) k f w e h p (suc i) l =
-        let r = h x i e (step at x k w p) (omega arith) in
+    reach-back n at x k f w h p zero l = record { place = at; end = x; reached = refl; named = k; right = f; ends = w; holds = p }
+    reach-back n at x k f w h p (suc i) l =
+        let r = h (step at x k w p) i (omega arith) in
         record { place = r .place; end = r .end; reached = rw w (r .reached); named = r .named; right = r .right; ends = r .ends; holds = r .holds }
-    reach-next left n at true true (Walked.Refused number place) k f w e h p i l = let z : _≡_ {A = ℕ} 0 1 = cc in absurd (omega arith)
-    reach-next left n at true false w k f is e h p i l = let z : _≡_ {A = ℕ} 0 1 = cc in absurd (omega arith)
-    reach-next left n at false f w k is it e h p i l = let z : n ≡ m = cc in absurd (omega arith)
 
     pub items-reach : (left n at : ℕ) → itemsOf file kind fields item left n at ≡ Section.Items m end → P at → (i : ℕ) → n + i < m → Reached i at
-    unfolding itemsOf
-    items-reach zero n at e p i l = let z = last n at (kindIs file kind at) (fields at) e .1 in absurd (omega arith)
-    items-reach (suc left) n at e p i l =
-        reach-next left n at (kindIs file kind at) (fields at) (item at) refl refl refl e (λ x j q r. items-reach left (n + 1) x q r j) p i l
+    items-reach =
+        items-induct file kind fields item m end (λ left n at. P at → (i : ℕ) → n + i < m → Reached i at) (λ left p i l. absurd (omega arith))
+        (λ left n at x k f w h. reach-back n at x k f w h)
+
+module _ (file : List ℕ) (kind : ℕ) (fields : ℕ → Bool) (item : ℕ → Walked) where
+  pub items-most : (m end left n at : ℕ) → itemsOf file kind fields item left n at ≡ Section.Items m end → m ≤ n + left
+  items-most m end = items-induct file kind fields item m end (λ left n at. m ≤ n + left) (λ left. omega arith) (λ left n at x k f w h. omega arith)
+
+  -- items of one record each
+  pub items-single : ((i e : ℕ) → item i ≡ End e → e ≡ i + 1) → (m end left n at : ℕ) → itemsOf file kind fields item left n at ≡ Section.Items m end → end + n ≡ at + m
+  items-single single m end =
+      items-induct file kind fields item m end (λ left n at. end + n ≡ at + m) (λ left. refl) (λ left n at x k f w h. let z = single at x w in omega arith)
 
 -- parts in sequence, with what holds where each begins
 module _ (part : ℕ → Walked) (P : ℕ → Type 0) (step : (i x : ℕ) → part i ≡ End x → P i → P x) (end : ℕ) where
@@ -111,46 +123,6 @@ module _ (part : ℕ → Walked) (P : ℕ → Type 0) (step : (i x : ℕ) → pa
   unfolding inSequence
   sequence-reach zero at e p i l = absurd (omega arith)
   sequence-reach (suc n) at e p i l = part-next n at (part at) refl (sequence-reach n) e p i l
-
--- a section holds no more items than it may
-module _ (file : List ℕ) (kind : ℕ) (fields : ℕ → Bool) (item : ℕ → Walked) (m end : ℕ) where
-  most-last : (n at : ℕ) (k f : Bool) → cond k (cond f (Section.Refused 5 at) (Section.Refused 4 at)) (Section.Items n at) ≡ Section.Items m end → m ≤ n + 0
-  most-last n at true true e = let z : _≡_ {A = ℕ} 0 1 = cc in absurd (omega arith)
-  most-last n at true false e = let z : _≡_ {A = ℕ} 0 1 = cc in absurd (omega arith)
-  most-last n at false f e = let z : n ≡ m = cc in omega arith
-
-  most-more : (left n at : ℕ) (next : ℕ → Section) → ((i : ℕ) → next i ≡ Section.Items m end → m ≤ n + 1 + left) → (k f : Bool) (w : Walked)
-      → cond k (cond f (andItems w next) (Section.Refused 4 at)) (Section.Items n at) ≡ Section.Items m end → m ≤ n + suc left
-  most-more left n at next h true true (Walked.End i) e = let z = h i e in omega arith
-  most-more left n at next h true true (Walked.Refused number place) e = let z : _≡_ {A = ℕ} 0 1 = cc in absurd (omega arith)
-  most-more left n at next h true false w e = let z : _≡_ {A = ℕ} 0 1 = cc in absurd (omega arith)
-  most-more left n at next h false f w e = let z : n ≡ m = cc in omega arith
-
-  pub items-most : (left n at : ℕ) → itemsOf file kind fields item left n at ≡ Section.Items m end → m ≤ n + left
-  unfolding itemsOf
-  items-most zero n at e = most-last n at (kindIs file kind at) (fields at) e
-  items-most (suc left) n at e =
-      most-more left n at (itemsOf file kind fields item left (n + 1)) (items-most left (n + 1)) (kindIs file kind at) (fields at) (item at) e
-
--- items of one record each
-module _ (file : List ℕ) (kind : ℕ) (fields : ℕ → Bool) (item : ℕ → Walked) (single : (i e : ℕ) → item i ≡ End e → e ≡ i + 1) (m end : ℕ) where
-  single-last : (n at : ℕ) (k f : Bool) → cond k (cond f (Section.Refused 5 at) (Section.Refused 4 at)) (Section.Items n at) ≡ Section.Items m end → end + n ≡ at + m
-  single-last n at true true e = let z : _≡_ {A = ℕ} 0 1 = cc in absurd (omega arith)
-  single-last n at true false e = let z : _≡_ {A = ℕ} 0 1 = cc in absurd (omega arith)
-  single-last n at false f e = let z : n ≡ m = cc in let y : at ≡ end = cc in omega arith
-
-  single-more : (n at : ℕ) (next : ℕ → Section) → ((i : ℕ) → next i ≡ Section.Items m end → end + (n + 1) ≡ i + m) → (k f : Bool) (w : Walked) → item at ≡ w
-      → cond k (cond f (andItems w next) (Section.Refused 4 at)) (Section.Items n at) ≡ Section.Items m end → end + n ≡ at + m
-  single-more n at next h true true (Walked.End i) is e = let z = h i e in let y = single at i is in omega arith
-  single-more n at next h true true (Walked.Refused number place) is e = let z : _≡_ {A = ℕ} 0 1 = cc in absurd (omega arith)
-  single-more n at next h true false w is e = let z : _≡_ {A = ℕ} 0 1 = cc in absurd (omega arith)
-  single-more n at next h false f w is e = let z : n ≡ m = cc in let y : at ≡ end = cc in omega arith
-
-  pub items-single : (left n at : ℕ) → itemsOf file kind fields item left n at ≡ Section.Items m end → end + n ≡ at + m
-  unfolding itemsOf
-  items-single zero n at e = single-last n at (kindIs file kind at) (fields at) e
-  items-single (suc left) n at e =
-      single-more n at (itemsOf file kind fields item left (n + 1)) (items-single left (n + 1)) (kindIs file kind at) (fields at) (item at) refl e
 
 -- ---- transitions
 module _ (file : List ℕ) (vars end : ℕ) where

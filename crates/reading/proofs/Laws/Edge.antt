@@ -4,7 +4,7 @@
 --     double-transition  a chain's node from 1 up has exactly one double transition, and it is just
 -- Assumes nothing.
 use mathlib.Core.Path.{_≡_, refl, sym, _∙_}
-use mathlib.Core.Bool.{Bool, true, false, cond, not, _&&_, _||_, and-eq-true-iff}
+use mathlib.Core.Bool.{Bool, true, false, cond, not, _&&_, _||_, and-eq-true-iff, false≢true}
 use mathlib.Core.List.{List}
 use Prim.Native.Nat.{ℕ, _+_, _-_, _<_, _≤_}
 use native.Mathlib.Omega.{arith}
@@ -20,11 +20,8 @@ use Rattle.reading.specs.Readable.{Edge, DoubleTransition}
 use Rattle.reading.proofs.Laws.Stage.{Stages}
 
 -- ---- tests
-differ : true ≡ false → ⊥
-differ e = let z : _≡_ {A = ℕ} 0 1 = cc in omega arith
-
 other : (a b : Bool) → (a || b) ≡ true → a ≡ false → b ≡ true
-other true b e f = absurd (differ f)
+other true b e f = absurd (false≢true (sym f))
 other false b e f = e
 
 module _ (file : List ℕ) (o : Outline) (r : Stages file o) where
@@ -112,7 +109,7 @@ module _ (file : List ℕ) (o : Outline) (r : Stages file o) where
         → cond t (not (eqb (fieldD file x) (fieldD file y))) (double file x && double file y) ≡ false → Agree x y
     agree-by x y true is q = (λ a. eqb-true _ _ (not-false _ q), λ d e. eqb-true _ _ is)
     agree-by x y false is q =
-        (λ a. absurd (eqb-false _ _ is a), λ d e. absurd (differ (sym (and-eq-true-iff (double file x) (double file y) .1 (eq-eqb _ _ d, eq-eqb _ _ e)) ∙ q)))
+        (λ a. absurd (eqb-false _ _ is a), λ d e. absurd (false≢true (sym q ∙ and-eq-true-iff (double file x) (double file y) .1 (eq-eqb _ _ d, eq-eqb _ _ e))))
 
     agree-later : (i j : ℕ) → i < j → j < o .edges → fieldB file (o .edge + i) ≡ fieldB file (o .edge + j) → Agree (o .edge + i) (o .edge + j)
     unfolding conflictOf

@@ -12,7 +12,7 @@ placeOf (Walked.End end) = end
 placeOf (Walked.Refused number place) = 0
 
 -- what f gives at the n numbers from `at` on
-unfoldable pub tabulate : (ℕ → ℕ) → ℕ → ℕ → List ℕ
+unfoldable pub tabulate : {A : Type 0} → (ℕ → A) → ℕ → ℕ → List A
 tabulate f zero at = []
 tabulate f (suc n) at = f at ∷ tabulate f n (at + 1)
 

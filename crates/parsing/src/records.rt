@@ -75,7 +75,7 @@ pub(crate) fn same_bytes(file: &[u8], i: usize, j: usize, n: usize) -> bool
 }
 
 // Whether there is a record at `at`, of this kind.
-pub(crate) fn kind_is(file: &[u8], kind: u8, at: usize) -> bool
+pub fn kind_is(file: &[u8], kind: u8, at: usize) -> bool
     ensures { λ r. ⌜ r ≡ kindIs (now (file .entry)) kind at ⌝ }
 {
     if at < file.len() / 8 {

@@ -2,6 +2,7 @@
 --     length-places     it has 32 entries
 --     places-nth        entry i is where part i stands
 --     places-beyond     the entries past the parts are 0
+--     length-tabulate, getD-tabulate     a table of any type: how many entries it has, and each
 -- Assumes nothing.
 use mathlib.Core.Path.{_≡_, refl, ap, _∙_}
 use mathlib.Core.Bool.{cond}
@@ -14,16 +15,17 @@ use Rattle.parsing.specs.declared.walk.Walked.{Walked}
 use Rattle.parsing.specs.Walk.{inSequence}
 use Rattle.parsing.specs.Place.{placeOf, tabulate, placesOf}
 
-length-tabulate : (f : ℕ → ℕ) (n at : ℕ) → length (tabulate f n at) ≡ n
-unfolding tabulate
-length-tabulate f zero at = refl
-length-tabulate f (suc n) at = ap suc (length-tabulate f n (at + 1))
+module _ {A : Type 0} (f : ℕ → A) where
+  pub length-tabulate : (n at : ℕ) → length (tabulate f n at) ≡ n
+  unfolding tabulate
+  length-tabulate zero at = refl
+  length-tabulate (suc n) at = ap suc (length-tabulate n (at + 1))
 
-getD-tabulate : (f : ℕ → ℕ) (n at i : ℕ) → i < n → getD (tabulate f n at) i 0 ≡ f (at + i)
-unfolding tabulate
-getD-tabulate f zero at i l = absurd (omega arith)
-getD-tabulate f (suc n) at zero l = ap f (omega arith)
-getD-tabulate f (suc n) at (suc i) l = getD-tabulate f n (at + 1) i (omega arith) ∙ ap f (omega arith)
+  pub getD-tabulate : (z : A) (n at i : ℕ) → i < n → getD (tabulate f n at) i z ≡ f (at + i)
+  unfolding tabulate
+  getD-tabulate z zero at i l = absurd (omega arith)
+  getD-tabulate z (suc n) at zero l = ap f (omega arith)
+  getD-tabulate z (suc n) at (suc i) l = getD-tabulate z n (at + 1) i (omega arith) ∙ ap f (omega arith)
 
 module _ (part : ℕ → Walked) (n first : ℕ) where
   abbrev entry : ℕ → ℕ
@@ -35,7 +37,7 @@ module _ (part : ℕ → Walked) (n first : ℕ) where
 
   getD-places : (i : ℕ) → i < 32 → getD (placesOf part n first) i 0 ≡ entry i
   unfolding placesOf
-  getD-places i l = getD-tabulate entry 32 0 i l ∙ ap entry (omega arith)
+  getD-places i l = getD-tabulate entry 0 32 0 i l ∙ ap entry (omega arith)
 
   pub places-nth : (i : ℕ) → i < 32 → i < n → getD (placesOf part n first) i 0 ≡ placeOf (inSequence part i first)
   places-nth i l m = getD-places i l ∙ rw (lt-ltb _ _ m)

@@ -1,0 +1,108 @@
+-- A transition's assignments, one after the other. Assumes nothing.
+use mathlib.Core.Path.{_≡_, refl, sym, ap, _∙_}
+use mathlib.Core.List.{List, [], _∷_}
+use mathlib.Core.Bool.{Bool, true, false, cond, _&&_}
+use Prim.Native.Nat.{ℕ, zero, suc, _+_, _-_, _*_, _≤_, _<_}
+use native.Mathlib.Omega.{arith}
+use borrow.Author.Tests.{ltb-true}
+use lib.Dec.{ltb}
+use lib.IntN.{ℤ}
+use lib.ListN.{length, set, length-drop}
+use Rattle.evaluating.specs.Expression.{partAt, truthAt, Fits}
+use Rattle.parsing.specs.Record.{fieldA, kindIs}
+use Rattle.parsing.specs.Kind.{number as numberSort}
+use Rattle.evaluating.specs.declared.transitions.Assignment.{Assignment}
+use Rattle.evaluating.specs.declared.expressions.Truth.{Truth}
+use Rattle.evaluating.specs.declared.transitions.Assigned.{Assigned}
+use Rattle.evaluating.specs.declared.transitions.Stepped.{Stepped}
+use Rattle.evaluating.specs.Transition.{behind, assignmentAt, assignmentsFrom, inRangeOf, allInRange, assigned, guardOf, assignmentsOf, enabledOf, successorOf, assignOf, stepOf, AssignmentsFit}
+use Rattle.evaluating.proofs.Laws.Expression.{fits-within}
+
+-- the expression at a record ends within the file
+pub behind-within : (want : ℕ) (file : List ℕ) (at : ℕ) (state : List ℤ) → 8 * at + 8 ≤ length file → Fits 16 want (partAt file (at + 1)) state
+    → 8 * behind file (at + 1) ≤ length file
+unfolding behind
+behind-within want file at state l h = omega (arith, fits-within 16 want (partAt file (at + 1)) state h, length-drop (8 * (at + 1)) file)
+
+-- ---- the assignments from a record on
+module _ (file : List ℕ) (at : ℕ) (state : List ℤ) where
+  list-none : (left : ℕ) → kindIs file 0x04 at ≡ false → assignmentsFrom file left at state ≡ []
+  unfolding assignmentsFrom
+  list-none zero e = refl
+  list-none (suc n) e = rw e
+
+  module _ {left n : ℕ} (is : left ≡ suc n) (e : kindIs file 0x04 at ≡ true) where
+    list-more : assignmentsFrom file left at state ≡ assignmentAt file at state ∷ assignmentsFrom file n (behind file (at + 1)) state
+    unfolding assignmentsFrom
+    list-more = rw (is, e)
+
+    pub fits-more : AssignmentsFit file left at state → (fieldA file at < 12) × Fits 16 numberSort (partAt file (at + 1)) state × AssignmentsFit file n (behind file (at + 1)) state
+    unfolding AssignmentsFit
+    fits-more h = (rw is at h) e
+
+-- ---- in the loop: what is left to do to `next` gives what all the assignments do to `state`
+module _ (lows highs : List ℤ) (file : List ℕ) (state : List ℤ) (all : List Assignment) where
+  pub record Left (next : List ℤ) (at left : ℕ) : Type 0 where
+    pub fit : AssignmentsFit file left at state
+    pub range : allInRange lows highs (assignmentsFrom file left at state) ≡ allInRange lows highs all
+    pub result : assigned (assignmentsFrom file left at state) next ≡ assigned all state
+
+  module _ {next : List ℤ} {at left : ℕ} (l : Left next at left) where
+    done : assignmentsFrom file left at state ≡ [] → _≡_ {A = Assigned} (record { fits = true; next = next }) (assignOf lows highs all state)
+    unfolding assignOf allInRange assigned
+    done e = rw (← (rw e at (l .range)), ← (rw e at (l .result)))
+
+    pub left-none : kindIs file 0x04 at ≡ false → _≡_ {A = Assigned} (record { fits = true; next = next }) (assignOf lows highs all state)
+    left-none e = done (list-none file at state left e)
+
+    pub left-end : left ≡ 0 → _≡_ {A = Assigned} (record { fits = true; next = next }) (assignOf lows highs all state)
+    unfolding assignmentsFrom
+    left-end e = done (rw e)
+
+    module _ (n : ℕ) (is : left ≡ suc n) (e : kindIs file 0x04 at ≡ true) {a : Assignment} (found : a ≡ assignmentAt file at state) where
+      pub left-out : inRangeOf lows highs (a .variable) (a .value) ≡ false → _≡_ {A = Assigned} (record { fits = false; next = state }) (assignOf lows highs all state)
+      unfolding assignOf allInRange
+      left-out o =
+          let r : false ≡ allInRange lows highs all = rw (list-more file at state is e, ← found, o) at (l .range) in
+          rw (← r)
+
+      end-is : a .end ≡ behind file (at + 1)
+      unfolding assignmentAt
+      end-is = rw found
+
+      pub left-variable : a .variable < 12
+      unfolding assignmentAt
+      left-variable = rw found (fits-more file at state is e (l .fit) .0)
+
+      pub left-more : inRangeOf lows highs (a .variable) (a .value) ≡ true → Left (set next (a .variable) (a .value)) (a .end) n
+      unfolding allInRange assigned
+      left-more i =
+          record {
+            fit = rw end-is (fits-more file at state is e (l .fit) .2);
+            range = rw end-is (rw (list-more file at state is e, ← found, i) at (l .range));
+            result = rw end-is (rw (list-more file at state is e, ← found) at (l .result));
+          }
+
+pub left-begins : (lows highs : List ℤ) (file : List ℕ) (state : List ℤ) (first : ℕ) → AssignmentsFit file 12 first state
+    → Left lows highs file state (assignmentsFrom file 12 first state) state first 12
+left-begins lows highs file state first h = record { fit = h; range = refl; result = refl }
+
+-- ---- the step: the guard, then the assignments
+module _ (file : List ℕ) (at : ℕ) (state : List ℤ) {x : Truth} (found : x ≡ truthAt 16 (partAt file (at + 1)) state) where
+  pub guard-found : x .value ≡ guardOf file at state
+  unfolding guardOf truthAt
+  guard-found = rw found
+
+  pub behind-found : at + 1 + x .records ≡ behind file (at + 1)
+  unfolding behind truthAt
+  behind-found = rw found
+
+module _ (lows highs : List ℤ) (file : List ℕ) (at : ℕ) (state : List ℤ) where
+  pub step-off : guardOf file at state ≡ false → _≡_ {A = Stepped} (record { guard = false; enabled = false; next = state }) (stepOf lows highs file at state)
+  unfolding stepOf enabledOf
+  step-off e = rw e
+
+  pub step-on : guardOf file at state ≡ true → {a : Assigned} → a ≡ assignOf lows highs (assignmentsFrom file 12 (behind file (at + 1)) state) state
+      → _≡_ {A = Stepped} (record { guard = true; enabled = a .fits; next = a .next }) (stepOf lows highs file at state)
+  unfolding stepOf enabledOf successorOf assignOf assignmentsOf
+  step-on e is = rw (e, is)

@@ -1,0 +1,40 @@
+-- `evaluating::expressions::holds` meets its contract. Assumes nothing.
+use Prim.Native.Nat.{_*_}
+use Rattle.evaluating.specs.Expression.{truthAt, holdsOf}
+use Rattle.evaluating.proofs.Steps.Part.{take-rest}
+use borrow.Author.Needs.{needs}
+use Rattle.evaluating.proofs.expressions.holds.Statement.{statement}
+use Rattle.evaluating.proofs.expressions.holds.Tie as tie
+use Rattle.evaluating.proofs.expressions.holds.Reads as reads
+use Rattle.evaluating.proofs.expressions.holds.Lts as lts
+use Rattle.evaluating.proofs.expressions.truth_at.Reads as truth-at-reads
+
+mul-truth-at : tie.Need-mul-truth-at
+mul-truth-at c = search needs
+
+sub-truth-at : tie.Need-sub-truth-at
+sub-truth-at c = search needs
+
+part-truth-at-start : tie.Need-part-truth-at-start
+part-truth-at-start c = search needs
+
+part-truth-at-end : tie.Need-part-truth-at-end
+part-truth-at-end c = search needs
+
+truth-at-requires : tie.Need-truth-at-requires
+truth-at-requires c κs = rw (take-rest (8 * c .before .before .args .at) (c .before .before .args .file .now)) (c .before .before .pre .1)
+
+returns : tie.Need-returns
+unfolding holdsOf truthAt
+returns c = rw (c .truth-at .ensures, take-rest (8 * c .before .before .before .args .at) (c .before .before .before .args .file .now))
+
+pub holds-spec : {M : Type 1} → statement M
+holds-spec =
+    tie.close
+    (tie.spec
+    mul-truth-at
+    sub-truth-at
+    part-truth-at-start
+    part-truth-at-end
+    truth-at-requires
+    returns)

@@ -1,0 +1,77 @@
+-- `evaluating::transitions::assign` meets its contract: what is left to do to `next` gives what all the assignments do to `state`.
+-- Assumes nothing.
+use borrow.Author.Tests.{not-true, not-false}
+use mathlib.Core.Path.{_≡_, sym, ap, _∙_}
+use Prim.Native.Nat.{suc, _+_, _-_, _*_, _≤_, _<_}
+use native.Mathlib.Omega.{arith}
+use lib.ListN.{length}
+use mir.Syntax.{w64}
+use Rattle.integers.proofs.Laws.Parts.{back}
+use Rattle.parsing.proofs.Laws.Section.{kind-here}
+use Rattle.evaluating.specs.Transition.{assignmentAt, assignmentsFrom}
+use Rattle.evaluating.proofs.Steps.Transition.{fits-more, Left, left-begins, left-none, left-end, left-variable, left-out, left-more}
+use Rattle.evaluating.proofs.transitions.assign.Statement.{statement}
+use Rattle.evaluating.proofs.transitions.assign.Tie as tie
+use Rattle.evaluating.proofs.transitions.assign.Reads as reads
+use Rattle.evaluating.proofs.transitions.assign.Lts as lts
+use Rattle.evaluating.proofs.transitions.assignment_at.Reads as assignment-at-reads
+use Rattle.evaluating.proofs.transitions.in_range.Reads as in-range-reads
+use Rattle.evaluating.proofs.transitions.with.Reads as with-reads
+use Rattle.parsing.proofs.records.kind_is.Reads as kind-is-reads
+
+abbrev Inv-loop : tie.InvT-loop
+Inv-loop file first low high state next₀ at₀ left₀ next at left = Left low high file state (assignmentsFrom file 12 first state) next at left
+
+abbrev μ-loop : tie.MeasureT-loop
+μ-loop file first low high state next₀ at₀ left₀ next at left = left
+
+loop-holds : tie.Need-loop-holds Inv-loop μ-loop
+loop-holds c = left-begins _ _ _ _ _ (c .before .pre)
+
+kind-is-requires : tie.Need-kind-is-requires Inv-loop μ-loop
+kind-is-requires c κs = tt
+
+returns : tie.Need-returns Inv-loop μ-loop
+returns c = left-none _ _ _ _ _ (c .before .before .before .loop .inv) (sym (c .before .kind-is .ensures) ∙ not-true _ (c .if1 .taken))
+
+assignment-at-requires : tie.Need-assignment-at-requires Inv-loop μ-loop
+assignment-at-requires c κs = (omega (arith, kind-here _ _ _ (sym (c .before .kind-is .ensures) ∙ not-false _ (c .if1 .left))), fits-more _ _ _ {n = c .before .before .before .loop .left - 1} (omega (arith, c .before .before .loop-test .taken)) (sym (c .before .kind-is .ensures) ∙ not-false _ (c .if1 .left)) (c .before .before .before .loop .inv .fit) .1)
+
+in-range-requires : tie.Need-in-range-requires Inv-loop μ-loop
+in-range-requires c κs = left-variable _ _ _ _ _ (c .before .before .before .before .before .loop .inv) (c .before .before .before .before .before .loop .left - 1) (omega (arith, c .before .before .before .before .loop-test .taken)) (sym (c .before .before .before .kind-is .ensures) ∙ not-false _ (c .before .before .if1 .left)) (c .before .assignment-at .ensures)
+
+returns-2 : tie.Need-returns-2 Inv-loop μ-loop
+returns-2 c = left-out _ _ _ _ _ (c .before .before .before .before .before .before .before .loop .inv) (c .before .before .before .before .before .before .before .loop .left - 1) (omega (arith, c .before .before .before .before .before .before .loop-test .taken)) (sym (c .before .before .before .before .before .kind-is .ensures) ∙ not-false _ (c .before .before .before .before .if1 .left)) (c .before .before .before .assignment-at .ensures) (rw (back w64 (c .before .before .before .assignment-at .result .value) (c .before .before .struct-told .given .1 .0 .1)) at (sym (c .before .in-range .ensures) ∙ not-true _ (c .if2 .taken)))
+
+with-requires : tie.Need-with-requires Inv-loop μ-loop
+with-requires c κs = (left-variable _ _ _ _ _ (c .before .before .before .before .before .before .before .loop .inv) (c .before .before .before .before .before .before .before .loop .left - 1) (omega (arith, c .before .before .before .before .before .before .loop-test .taken)) (sym (c .before .before .before .before .before .kind-is .ensures) ∙ not-false _ (c .before .before .before .before .if1 .left)) (c .before .before .before .assignment-at .ensures), sym (c .before .in-range .ensures) ∙ not-false _ (c .if2 .left))
+
+sub-left : tie.Need-sub-left Inv-loop μ-loop
+sub-left c = omega arith
+
+loop-less : tie.Need-loop-less Inv-loop μ-loop
+loop-less c = omega arith
+
+loop-again : tie.Need-loop-again Inv-loop μ-loop
+loop-again c = rw (c .with .ensures, back w64 (c .before .before .before .before .assignment-at .result .value) (c .before .before .before .struct-told .given .1 .0 .1)) (left-more _ _ _ _ _ (c .before .before .before .before .before .before .before .before .loop .inv) (c .before .before .before .before .before .before .before .before .loop .left - 1) (omega (arith, c .before .before .before .before .before .before .before .loop-test .taken)) (sym (c .before .before .before .before .before .before .kind-is .ensures) ∙ not-false _ (c .before .before .before .before .before .if1 .left)) (c .before .before .before .before .assignment-at .ensures) (rw (back w64 (c .before .before .before .before .assignment-at .result .value) (c .before .before .before .struct-told .given .1 .0 .1)) at (sym (c .before .before .in-range .ensures) ∙ not-false _ (c .before .if2 .left))))
+
+returns-3 : tie.Need-returns-3 Inv-loop μ-loop
+returns-3 c = left-end _ _ _ _ _ (c .before .loop .inv) (omega arith)
+
+pub assign-spec : {M : Type 1} → statement M
+assign-spec =
+    tie.close
+    (tie.spec
+    Inv-loop
+    μ-loop
+    loop-holds
+    kind-is-requires
+    returns
+    assignment-at-requires
+    in-range-requires
+    returns-2
+    with-requires
+    sub-left
+    loop-less
+    loop-again
+    returns-3)

@@ -1,0 +1,60 @@
+-- `evaluating::transitions::step` meets its contract. Assumes nothing.
+use borrow.Author.Tests.{not-true, not-false}
+use mathlib.Core.Path.{sym, ap, _∙_}
+use Prim.Native.Nat.{_+_, _*_, _≤_}
+use native.Mathlib.Omega.{arith}
+use lib.ListN.{length}
+use Rattle.evaluating.proofs.Steps.Part.{take-rest}
+use Rattle.evaluating.proofs.Steps.Transition.{behind-within, guard-found, behind-found, step-off, step-on}
+use borrow.Author.Needs.{needs}
+use Rattle.evaluating.proofs.transitions.step.Statement.{statement}
+use Rattle.evaluating.proofs.transitions.step.Tie as tie
+use Rattle.evaluating.proofs.transitions.step.Reads as reads
+use Rattle.evaluating.proofs.transitions.step.Lts as lts
+use Rattle.evaluating.proofs.expressions.truth_at.Reads as truth-at-reads
+use Rattle.evaluating.proofs.transitions.assign.Reads as assign-reads
+
+add-from : tie.Need-add-from
+add-from c = omega (arith, c .before .pre .there)
+
+mul-truth-at : tie.Need-mul-truth-at
+mul-truth-at c = omega (arith, c .before .pre .there)
+
+sub-truth-at : tie.Need-sub-truth-at
+sub-truth-at c = omega (arith, c .before .pre .there)
+
+part-truth-at-start : tie.Need-part-truth-at-start
+part-truth-at-start c = omega (arith, c .before .pre .there)
+
+part-truth-at-end : tie.Need-part-truth-at-end
+part-truth-at-end c = search needs
+
+truth-at-requires : tie.Need-truth-at-requires
+truth-at-requires c κs = rw (take-rest (8 * (c .before .before .args .at + 1)) (c .before .before .args .file .now)) (c .before .before .pre .guard)
+
+returns : tie.Need-returns
+returns c = step-off _ _ _ _ _ (sym (guard-found (c .before .before .before .before .before .args .file .now) (c .before .before .before .before .before .args .at) (c .before .before .before .before .before .args .state) (rw (take-rest (8 * (c .before .before .before .before .before .args .at + 1)) (c .before .before .before .before .before .args .file .now)) at (c .before .before .truth-at .ensures))) ∙ not-true _ (c .if1 .taken))
+
+add-assign : tie.Need-add-assign
+add-assign c = omega (arith, behind-within _ _ _ _ (c .before .before .before .before .before .before .pre .there) (c .before .before .before .before .before .before .pre .guard), behind-found (c .before .before .before .before .before .before .args .file .now) (c .before .before .before .before .before .before .args .at) (c .before .before .before .before .before .before .args .state) (rw (take-rest (8 * (c .before .before .before .before .before .before .args .at + 1)) (c .before .before .before .before .before .before .args .file .now)) at (c .before .before .before .truth-at .ensures)))
+
+assign-requires : tie.Need-assign-requires
+assign-requires c κs = rw (behind-found (c .before .before .before .before .before .before .args .file .now) (c .before .before .before .before .before .before .args .at) (c .before .before .before .before .before .before .args .state) (rw (take-rest (8 * (c .before .before .before .before .before .before .args .at + 1)) (c .before .before .before .before .before .before .args .file .now)) at (c .before .before .before .truth-at .ensures))) (c .before .before .before .before .before .before .pre .assignments)
+
+returns-2 : tie.Need-returns-2
+returns-2 c = step-on _ _ _ _ _ (sym (guard-found (c .before .before .before .before .before .before .before .before .args .file .now) (c .before .before .before .before .before .before .before .before .args .at) (c .before .before .before .before .before .before .before .before .args .state) (rw (take-rest (8 * (c .before .before .before .before .before .before .before .before .args .at + 1)) (c .before .before .before .before .before .before .before .before .args .file .now)) at (c .before .before .before .before .before .truth-at .ensures))) ∙ not-false _ (c .before .before .before .if1 .left)) (rw (behind-found (c .before .before .before .before .before .before .before .before .args .file .now) (c .before .before .before .before .before .before .before .before .args .at) (c .before .before .before .before .before .before .before .before .args .state) (rw (take-rest (8 * (c .before .before .before .before .before .before .before .before .args .at + 1)) (c .before .before .before .before .before .before .before .before .args .file .now)) at (c .before .before .before .before .before .truth-at .ensures))) at (c .before .assign .ensures))
+
+pub step-spec : {M : Type 1} → statement M
+step-spec =
+    tie.close
+    (tie.spec
+    add-from
+    mul-truth-at
+    sub-truth-at
+    part-truth-at-start
+    part-truth-at-end
+    truth-at-requires
+    returns
+    add-assign
+    assign-requires
+    returns-2)

@@ -1,0 +1,4 @@
+// What expressions are worth in a state, which states there are, and what a transition does.
+pub mod expressions;
+pub mod states;
+pub mod transitions;

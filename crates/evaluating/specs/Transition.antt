@@ -3,8 +3,8 @@
 use mathlib.Core.Path.{_≡_}
 use mathlib.Core.List.{List, [], _∷_}
 use mathlib.Core.Bool.{Bool, true, false, cond, _&&_}
-use Prim.Native.Nat.{ℕ, zero, suc, _+_, _*_, _≤_, _<_}
-use lib.ListN.{length, getD, set, drop}
+use Prim.Native.Nat.{ℕ, zero, suc, _+_, _*_, _/_, _≤_, _<_}
+use lib.ListN.{length, getD, set}
 use lib.IntN.{ℤ, pos}
 use Rattle.integers.specs.Interval.{between}
 use Rattle.parsing.specs.Record.{fieldA, kindIs}
@@ -47,9 +47,9 @@ assigned (a ∷ rest) state = assigned rest (set state (a .variable) (a .value))
 unfoldable pub guardOf : List ℕ → ℕ → List ℤ → Bool
 guardOf file at state = truth 16 (partAt file (at + 1)) state
 
--- its assignments: no variable is assigned twice, so at most twelve
+-- its assignments, which are no more than the file has records
 unfoldable pub assignmentsOf : List ℕ → ℕ → List ℤ → List Assignment
-assignmentsOf file at state = assignmentsFrom file 12 (behind file (at + 1)) state
+assignmentsOf file at state = assignmentsFrom file (length file / 8) (behind file (at + 1)) state
 
 unfoldable pub enabledOf : List ℤ → List ℤ → List ℕ → ℕ → List ℤ → Bool
 enabledOf lows highs file at state = guardOf file at state && allInRange lows highs (assignmentsOf file at state)
@@ -79,4 +79,4 @@ AssignmentsFit file (suc n) at state =
 pub record TransitionFits (file : List ℕ) (at : ℕ) (state : List ℤ) : Type 0 where
   pub there : 8 * at + 8 ≤ length file
   pub guard : Fits 16 truthSort (partAt file (at + 1)) state
-  pub assignments : AssignmentsFit file 12 (behind file (at + 1)) state
+  pub assignments : AssignmentsFit file (length file / 8) (behind file (at + 1)) state

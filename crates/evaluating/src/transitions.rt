@@ -7,7 +7,7 @@ use parsing::records::byte_at;
 use parsing::records::kind_is;
 ghost use mathlib.Core.Path.{_≡_};
 ghost use mathlib.Core.Bool.{true};
-ghost use Prim.Native.Nat.{_+_, _*_, _≤_, _<_};
+ghost use Prim.Native.Nat.{_+_, _*_, _/_, _≤_, _<_};
 ghost use lib.ListN.{length, set};
 ghost use Rattle.parsing.specs.Kind.{number as numberSort};
 ghost use Rattle.evaluating.specs.Expression.{partAt, Fits};
@@ -72,12 +72,12 @@ fn assignment_at(file: &[u8], at: usize, state: [i16; 12]) -> Assignment
 
 // The assignments from record `first` on, each worked out from the state before any is made.
 fn assign(file: &[u8], first: usize, low: [i16; 12], high: [i16; 12], state: [i16; 12]) -> Assigned
-    requires { ⌜ AssignmentsFit (now file) 12 first state ⌝ }
-    ensures { λ r. ⌜ r ≡ assignOf low high (assignmentsFrom (now (file .entry)) 12 first state) state ⌝ }
+    requires { ⌜ AssignmentsFit (now file) (length (now file) / 8) first state ⌝ }
+    ensures { λ r. ⌜ r ≡ assignOf low high (assignmentsFrom (now (file .entry)) (length (now (file .entry)) / 8) first state) state ⌝ }
 {
     let mut next = state;
     let mut at = first;
-    let mut left: usize = 12;
+    let mut left = file.len() / 8;
     while 0 < left {
         if !kind_is(file, 0x04, at) {
             return Assigned { fits: true, next };

@@ -9,7 +9,7 @@
 use mathlib.Core.Path.{_≡_, sym, ap, _∙_}
 use mathlib.Core.List.{List, [], _∷_}
 use mathlib.Core.Bool.{Bool, true, false, cond, _&&_, and-eq-true-iff}
-use Prim.Native.Nat.{ℕ, zero, suc, _+_, _*_, _<_, _≤_}
+use Prim.Native.Nat.{ℕ, zero, suc, _+_, _*_, _/_, _<_, _≤_}
 use native.Mathlib.Omega.{arith}
 use lib.IntN.{ℤ, pos}
 use lib.ListN.{length, getD}
@@ -90,7 +90,7 @@ module _ (file : List ℕ) (o : Outline) (r : readOf file ≡ Reading.Readable o
         record {
           there = omega (arith, kind-here file 0x03 (x .place) (x .named));
           guard = fits _ _ _ _ (x .guard);
-          assignments = rw (behind-is file (o .vars) (x .end) (x .guard)) (assignments-fit file (o .vars) (x .end) state most (fits numberSort) 12 (x .behind) (x .assignments));
+          assignments = rw (behind-is file (o .vars) (x .end) (x .guard)) (assignments-fit file (o .vars) (x .end) state most (fits numberSort) (length file / 8) (x .behind) (x .assignments));
         }
 
     -- ---- the successor

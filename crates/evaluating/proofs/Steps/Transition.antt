@@ -2,7 +2,7 @@
 use mathlib.Core.Path.{_≡_, refl, sym, ap, _∙_}
 use mathlib.Core.List.{List, [], _∷_}
 use mathlib.Core.Bool.{Bool, true, false, cond, _&&_}
-use Prim.Native.Nat.{ℕ, zero, suc, _+_, _-_, _*_, _≤_, _<_}
+use Prim.Native.Nat.{ℕ, zero, suc, _+_, _-_, _*_, _/_, _≤_, _<_}
 use native.Mathlib.Omega.{arith}
 use borrow.Author.Tests.{ltb-true}
 use lib.Dec.{ltb}
@@ -83,9 +83,9 @@ module _ (lows highs : List ℤ) (file : List ℕ) (state : List ℤ) (all : Lis
             result = rw end-is (rw (list-more file at state is e, ← found) at (l .result));
           }
 
-pub left-begins : (lows highs : List ℤ) (file : List ℕ) (state : List ℤ) (first : ℕ) → AssignmentsFit file 12 first state
-    → Left lows highs file state (assignmentsFrom file 12 first state) state first 12
-left-begins lows highs file state first h = record { fit = h; range = refl; result = refl }
+pub left-begins : (lows highs : List ℤ) (file : List ℕ) (state : List ℤ) (n first : ℕ) → AssignmentsFit file n first state
+    → Left lows highs file state (assignmentsFrom file n first state) state first n
+left-begins lows highs file state n first h = record { fit = h; range = refl; result = refl }
 
 -- ---- the step: the guard, then the assignments
 module _ (file : List ℕ) (at : ℕ) (state : List ℤ) {x : Truth} (found : x ≡ truthAt 16 (partAt file (at + 1)) state) where
@@ -102,7 +102,7 @@ module _ (lows highs : List ℤ) (file : List ℕ) (at : ℕ) (state : List ℤ)
   unfolding stepOf enabledOf
   step-off e = rw e
 
-  pub step-on : guardOf file at state ≡ true → {a : Assigned} → a ≡ assignOf lows highs (assignmentsFrom file 12 (behind file (at + 1)) state) state
+  pub step-on : guardOf file at state ≡ true → {a : Assigned} → a ≡ assignOf lows highs (assignmentsFrom file (length file / 8) (behind file (at + 1)) state) state
       → _≡_ {A = Stepped} (record { guard = true; enabled = a .fits; next = a .next }) (stepOf lows highs file at state)
   unfolding stepOf enabledOf successorOf assignOf assignmentsOf
   step-on e is = rw (e, is)

@@ -2,7 +2,7 @@
 -- Assumes nothing.
 use borrow.Author.Tests.{not-true, not-false}
 use mathlib.Core.Path.{_≡_, sym, ap, _∙_}
-use Prim.Native.Nat.{suc, _+_, _-_, _*_, _≤_, _<_}
+use Prim.Native.Nat.{suc, _+_, _-_, _*_, _/_, _≤_, _<_}
 use native.Mathlib.Omega.{arith}
 use lib.ListN.{length}
 use mir.Syntax.{w64}
@@ -20,13 +20,13 @@ use Rattle.evaluating.proofs.transitions.with.Reads as with-reads
 use Rattle.parsing.proofs.records.kind_is.Reads as kind-is-reads
 
 abbrev Inv-loop : tie.InvT-loop
-Inv-loop file first low high state next₀ at₀ left₀ next at left = Left low high file state (assignmentsFrom file 12 first state) next at left
+Inv-loop file first low high state next₀ at₀ left₀ next at left = Left low high file state (assignmentsFrom file (length file / 8) first state) next at left
 
 abbrev μ-loop : tie.MeasureT-loop
 μ-loop file first low high state next₀ at₀ left₀ next at left = left
 
 loop-holds : tie.Need-loop-holds Inv-loop μ-loop
-loop-holds c = left-begins _ _ _ _ _ (c .before .pre)
+loop-holds c = left-begins _ _ _ _ _ _ (c .before .pre)
 
 kind-is-requires : tie.Need-kind-is-requires Inv-loop μ-loop
 kind-is-requires c κs = tt

@@ -2,7 +2,7 @@
 -- record." A state is the list of twelve values. `levels` is how many nesting levels are left, 16 at the outermost record.
 use mathlib.Core.Path.{_≡_}
 use mathlib.Core.List.{List}
-use mathlib.Core.Bool.{Bool, true, false, not, cond, _&&_, _||_, Bool·beq}
+use mathlib.Core.Bool.{Bool, false, not, cond, _&&_, _||_, Bool·beq}
 use Prim.Native.Nat.{ℕ, zero, suc, _+_, _*_, _≤_, _<_}
 use lib.ListN.{length, getD, drop}
 use lib.Dec.{eqb}

@@ -3,6 +3,7 @@
 --     below-high                         an offset below the size of a range is that of a value in it
 --     number-below, state-within         a state has a number below the count, and such a number a state
 --     state-of-number, number-of-state   each determines the other
+--     number-unique                      no two states have one number
 --     first-state                        number 0 is the state of the low ends
 --     advance-within                     the move forward leads to a state
 --     advance-number, advance-next       from any state but the last, to the one numbered one higher
@@ -74,6 +75,10 @@ state-within no-ranges n l = no-values
 state-within (more-ranges {low} {high} {lows} {highs} p r) n l =
     let d = n / countOf lows highs in
     more-values (at-above low d) (below-high d p (div-lt-iff-lt-mul (count-pos lows highs) .1 l)) (state-within r (n % countOf lows highs) (mod-lt n (count-pos lows highs)))
+
+-- so no two states have one number
+pub number-unique : {lows highs s t : List ℤ} → Within lows highs s → Within lows highs t → numberOf lows highs s ≡ numberOf lows highs t → s ≡ t
+number-unique {lows} {highs} v w e = sym (state-of-number v) ∙ ap (stateOf lows highs) e ∙ state-of-number w
 
 -- ---- the first state
 

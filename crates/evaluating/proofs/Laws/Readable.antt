@@ -1,23 +1,24 @@
 -- What is known of a readable file and of its states: the page that judging cites. Each law follows from the answer of `read` alone.
 --     ranges                                       no range is empty
---     states                                       there are as many states as reading counts, at least 1 and at most 1,048,576
+--     states, states-within                        there are as many states as reading counts, at least 1 and at most 1,048,576
+--     numbered, number                             each number below that has a state, and each state such a number: they determine each other
+--     first, next                                  the first state, and the move forward from any but the last to the one numbered one higher
 --     start-fits, claimed-fits, assertion-fits     in every state the start, each expression of the property and each node's assertion can be evaluated
 --     transition-fits                              so can each transition's guard and assigned values
---     assignments-once                             no transition assigns a variable twice
+--     assignments-all, assignments-once            its assignments are all that reading found, to no variable twice
 --     successor-within                             the successor of an enabled transition at a state is a state
 -- Assumes nothing.
-use mathlib.Core.Path.{_≡_, sym, ap, _∙_}
-use mathlib.Core.List.{List, [], _∷_}
-use mathlib.Core.Bool.{Bool, true, false, cond, _&&_, and-eq-true-iff}
-use Prim.Native.Nat.{ℕ, zero, suc, _+_, _*_, _/_, _<_, _≤_}
+use mathlib.Core.Path.{_≡_, refl, sym, ap}
+use mathlib.Core.List.{List, _∷_}
+use mathlib.Core.Bool.{true, and-eq-true-iff}
+use Prim.Native.Nat.{ℕ, zero, suc, _+_, _/_, _<_, _≤_}
 use native.Mathlib.Omega.{arith}
 use lib.IntN.{ℤ, pos}
 use lib.ListN.{length, getD}
-use lib.Signed.{_≤ℤ_}
 use Rattle.integers.specs.declared.Interval.{Interval}
 use Rattle.integers.specs.Interval.{In}
 use Rattle.parsing.specs.declared.outline.Outline.{Outline}
-use Rattle.parsing.specs.Record.{fieldA, valueB, valueC, kindIs}
+use Rattle.parsing.specs.Record.{fieldA, valueB, valueC}
 use Rattle.parsing.specs.Kind.{number as numberSort, truth as truthSort}
 use Rattle.parsing.specs.Section.{expressionsOf}
 use Rattle.parsing.proofs.Laws.Section.{kind-here}
@@ -26,17 +27,16 @@ use Rattle.reading.specs.Interval.{interval}
 use Rattle.reading.specs.States.{productOf}
 use Rattle.reading.specs.Read.{readOf}
 use Rattle.reading.specs.Readable.{Expression, Apart, Assignments}
-use Rattle.reading.proofs.Laws.Expression.{expression-span}
+use Rattle.reading.proofs.Laws.Expression.{expression-span, expression-within}
 use Rattle.reading.proofs.Laws.Readable as readable
 use Rattle.evaluating.specs.Expression.{partAt, Fits}
 use Rattle.evaluating.specs.State.{lowsOf, highsOf, Ranges, State}
-use Rattle.evaluating.specs.Number.{countOf}
-use Rattle.evaluating.specs.declared.transitions.Assignment.{Assignment}
+use Rattle.evaluating.specs.Number.{countOf, stateOf, numberOf, advanceOf}
 use Rattle.evaluating.specs.Transition.{behind, assignmentAt, assignmentsFrom, allInRange, guardOf, assignmentsOf, enabledOf, successorOf, AssignmentsFit, TransitionFits}
 use Rattle.evaluating.proofs.Laws.Sound.{expression-fits}
 use Rattle.evaluating.proofs.Laws.State.{ends-at, ranges-file, within-at}
-use Rattle.evaluating.proofs.Laws.Number.{count-file}
-use Rattle.evaluating.proofs.Laws.Transition.{Unassigned, Once, assigned-within}
+use Rattle.evaluating.proofs.Laws.Number.{number-below, state-of-number, number-of-state, state-within, first-state, advance-next, count-file}
+use Rattle.evaluating.proofs.Laws.Transition.{variables, Unassigned, Once, assigned-within}
 
 -- ---- a transition's assignments
 module _ (file : List ℕ) (vars end : ℕ) where
@@ -53,16 +53,57 @@ module _ (file : List ℕ) (vars end : ℕ) where
   assignments-fit state most fits (suc n) at (Assignments.more {mid = mid} {i = i} e l x rest apart) =
       λ k. (omega arith, fits (at + 1) mid i x, rw (behind-is x) (assignments-fit state most fits n mid rest))
 
+  -- the variables of the assignments listed are those that reading found, each once
+  module _ (state : List ℤ) where
+    unassigned : (v n at : ℕ) {vs : List ℕ} → Assignments file vars end at vs → Apart v vs → Unassigned v (assignmentsFrom file n at state)
+    unfolding assignmentsFrom assignmentAt
+    unassigned v zero at h p = tt
+    unassigned v (suc n) at (Assignments.none e) p = rw e tt
+    unassigned v (suc n) at (Assignments.more {mid = mid} e l x rest apart) p = rw (e, behind-is x) (p .0, unassigned v n mid rest (p .1))
+
+    once : (n at : ℕ) {vs : List ℕ} → Assignments file vars end at vs → Once (assignmentsFrom file n at state)
+    unfolding assignmentsFrom assignmentAt
+    once zero at h = tt
+    once (suc n) at (Assignments.none e) = rw e tt
+    once (suc n) at (Assignments.more {mid = mid} e l x rest apart) = rw (e, behind-is x) (unassigned (fieldA file at) n mid rest apart, once n mid rest)
+
+    listed : (n at : ℕ) {vs : List ℕ} → length file / 8 ≤ at + n → Assignments file vars end at vs → variables (assignmentsFrom file n at state) ≡ vs
+    unfolding assignmentsFrom assignmentAt
+    listed zero at m (Assignments.none e) = refl
+    listed zero at m (Assignments.more e l x rest apart) = absurd (omega (arith, kind-here file 0x04 at e))
+    listed (suc n) at m (Assignments.none e) = rw e
+    listed (suc n) at m (Assignments.more {mid = mid} e l x rest apart) =
+        let w = expression-within file vars numberSort (at + 1) mid x .0 in
+        rw (e, behind-is x) (ap (λ (vs : List ℕ). fieldA file at ∷ vs) (listed n mid (omega arith) rest))
+
 module _ (file : List ℕ) (o : Outline) (r : readOf file ≡ Reading.Readable o) where
-  -- ---- the states
   most : o .vars ≤ 12
   most = readable.variables-within file o r .1
 
-  pub ranges : Ranges (lowsOf file (o .vars)) (highsOf file (o .vars))
+  abbrev lows : List ℤ
+  lows = lowsOf file (o .vars)
+
+  abbrev highs : List ℤ
+  highs = highsOf file (o .vars)
+
+  -- ---- the states and their numbers
+  pub ranges : Ranges lows highs
   ranges = ranges-file file (o .vars) most (readable.variable-range file o r)
 
-  pub states : countOf (lowsOf file (o .vars)) (highsOf file (o .vars)) ≡ productOf file (o .vars) 0
+  pub states : countOf lows highs ≡ productOf file (o .vars) 0
   states = count-file file (o .vars) most
+
+  pub states-within : (1 ≤ countOf lows highs) × (countOf lows highs ≤ 1048576)
+  states-within = rw states (readable.states-within file o r)
+
+  pub numbered : (n : ℕ) → n < countOf lows highs → State file (o .vars) (stateOf lows highs n) × (numberOf lows highs (stateOf lows highs n) ≡ n)
+  numbered n l = (state-within ranges n l, number-of-state ranges n l)
+
+  pub first : stateOf lows highs 0 ≡ lows
+  first = first-state ranges
+
+  pub next : (n : ℕ) → n + 1 < countOf lows highs → advanceOf lows highs (stateOf lows highs n) ≡ stateOf lows highs (n + 1)
+  next n l = advance-next ranges n l
 
   module _ (state : List ℤ) (s : State file (o .vars) state) where
     inside : (v : ℕ) → v < o .vars → In (getD state v (pos 0)) (interval (valueB file v) (valueC file v))
@@ -73,6 +114,9 @@ module _ (file : List ℕ) (o : Outline) (r : readOf file ≡ Reading.Readable o
 
     fits : (want at end : ℕ) (i : Interval) → Expression file (o .vars) 16 want at end i → Fits 16 want (partAt file at) state
     fits want at end i x = expression-fits file (o .vars) most state inside 16 want at end i x
+
+    pub number : (numberOf lows highs state < countOf lows highs) × (stateOf lows highs (numberOf lows highs state) ≡ state)
+    number = (number-below s, state-of-number s)
 
     -- ---- expressions
     pub start-fits : Fits 16 truthSort (partAt file (o .vars + 1)) state
@@ -93,9 +137,23 @@ module _ (file : List ℕ) (o : Outline) (r : readOf file ≡ Reading.Readable o
           assignments = rw (behind-is file (o .vars) (x .end) (x .guard)) (assignments-fit file (o .vars) (x .end) state most (fits numberSort) (length file / 8) (x .behind) (x .assignments));
         }
 
+    -- ---- the assignments: all that reading found, to no variable twice
+    module _ (t : ℕ) (l : t < o .transitions) where
+      pub assignments-all : variables (assignmentsOf file (readable.transition file o r t l .place) state) ≡ readable.transition file o r t l .assigned
+      unfolding assignmentsOf
+      assignments-all =
+          let x = readable.transition file o r t l in
+          rw (behind-is file (o .vars) (x .end) (x .guard)) (listed file (o .vars) (x .end) state (length file / 8) (x .behind) (omega arith) (x .assignments))
+
+      pub assignments-once : Once (assignmentsOf file (readable.transition file o r t l .place) state)
+      unfolding assignmentsOf
+      assignments-once =
+          let x = readable.transition file o r t l in
+          rw (behind-is file (o .vars) (x .end) (x .guard)) (once file (o .vars) (x .end) state (length file / 8) (x .behind) (x .assignments))
+
     -- ---- the successor
-    pub successor-within : (at : ℕ) → enabledOf (lowsOf file (o .vars)) (highsOf file (o .vars)) file at state ≡ true → State file (o .vars) (successorOf file at state)
+    pub successor-within : (at : ℕ) → enabledOf lows highs file at state ≡ true → State file (o .vars) (successorOf file at state)
     unfolding enabledOf successorOf
     successor-within at e =
-        assigned-within (lowsOf file (o .vars)) (highsOf file (o .vars)) (assignmentsOf file at state) state s
-        (and-eq-true-iff (guardOf file at state) (allInRange (lowsOf file (o .vars)) (highsOf file (o .vars)) (assignmentsOf file at state)) .0 e .1)
+        assigned-within lows highs (assignmentsOf file at state) state s
+        (and-eq-true-iff (guardOf file at state) (allInRange lows highs (assignmentsOf file at state)) .0 e .1)

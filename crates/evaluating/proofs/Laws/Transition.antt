@@ -4,7 +4,7 @@
 --     assigned-value, assigned-rest               "has those values, the rest unchanged", where no variable is assigned twice
 -- Assumes nothing.
 use mathlib.Core.Path.{_≡_, refl, sym, subst, _∙_}
-use mathlib.Core.List.{List, [], _∷_}
+use mathlib.Core.List.{List, [], _∷_, map}
 use mathlib.Core.Bool.{true, and-eq-true-iff}
 use Prim.Native.Nat.{ℕ, _<_}
 use lib.IntN.{ℤ, pos}
@@ -31,6 +31,10 @@ module _ (lows highs : List ℤ) where
       assigned-within rest (set state (a .variable) (a .value)) (within-set w (a .variable) (r .0) (r .1)) (b .1)
 
 -- ---- "has those values, the rest unchanged"
+-- the variables that are assigned, in order
+abbrev pub variables : List Assignment → List ℕ
+variables list = map (λ (a : Assignment). a .variable) list
+
 -- variable v is not assigned
 abbrev pub Unassigned : ℕ → List Assignment → Type 0
 Unassigned v [] = Unit {0}

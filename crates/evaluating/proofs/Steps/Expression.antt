@@ -1,8 +1,8 @@
 -- The evaluators at one record: its operands fit, and their answers make the answer for the whole. Assumes nothing.
-use mathlib.Core.Path.{_≡_, refl, sym, ap, subst, _∙_}
+use mathlib.Core.Path.{_≡_, ap}
 use mathlib.Core.List.{List, [], _∷_}
 use mathlib.Core.Bool.{Bool, not}
-use Prim.Native.Nat.{ℕ, suc, _+_, _-_, _*_, _≤_, _<_}
+use Prim.Native.Nat.{ℕ, suc, _+_, _-_, _*_, _≤_}
 use native.Mathlib.Omega.{arith}
 use lib.ListN.{length, getD, length-drop}
 use lib.Dec.{eqb}
@@ -20,7 +20,7 @@ use Rattle.parsing.specs.Walk.{spans, span}
 use Rattle.reading.specs.Interval.{combine}
 use Rattle.evaluating.specs.declared.expressions.Number.{Number}
 use Rattle.evaluating.specs.declared.expressions.Truth.{Truth}
-use Rattle.evaluating.specs.Expression.{partAt, first, second, indicatorOf, connectOf, compareOf, numberBy, truthBy, number, truth, single, numberAt, truthAt, OperandsFit, Fits}
+use Rattle.evaluating.specs.Expression.{partAt, first, second, indicatorOf, connectOf, compareOf, numberBy, truthBy, single, numberAt, truthAt, OperandsFit, Fits}
 use Rattle.evaluating.proofs.Laws.Expression.{number-opens, truth-opens, span-opens, fits-opens, fits-level, fits-record, fits-small, fits-within}
 
 -- ---- an evaluator's answer

@@ -4,8 +4,6 @@ use Prim.Native.Nat.{_*_}
 use Rattle.evaluating.proofs.Steps.Part.{take-rest}
 use Rattle.evaluating.proofs.expressions.after.Statement.{statement}
 use Rattle.evaluating.proofs.expressions.after.Tie as tie
-use Rattle.evaluating.proofs.expressions.after.Reads as reads
-use Rattle.evaluating.proofs.expressions.after.Lts as lts
 
 mul-result : tie.Need-mul-result
 mul-result c = search needs

@@ -5,8 +5,6 @@ use Rattle.reading.specs.Interval.{combine}
 use Rattle.integers.proofs.Laws.Bounds.{sum-fits, difference-fits, product-fits, op-fits, op-back}
 use Rattle.evaluating.proofs.expressions.combine.Statement.{statement}
 use Rattle.evaluating.proofs.expressions.combine.Tie as tie
-use Rattle.evaluating.proofs.expressions.combine.Reads as reads
-use Rattle.evaluating.proofs.expressions.combine.Lts as lts
 
 add-result : tie.Need-add-result
 add-result c = let p = c .before .pre in op-fits _+ℤ_ sum-fits (p .0) (p .1)

@@ -5,8 +5,6 @@ use Rattle.integers.proofs.Laws.Equality.{bits-equal}
 use Rattle.evaluating.specs.Expression.{compareOf}
 use Rattle.evaluating.proofs.expressions.compare.Statement.{statement}
 use Rattle.evaluating.proofs.expressions.compare.Tie as tie
-use Rattle.evaluating.proofs.expressions.compare.Reads as reads
-use Rattle.evaluating.proofs.expressions.compare.Lts as lts
 
 returns : tie.Need-returns
 unfolding compareOf

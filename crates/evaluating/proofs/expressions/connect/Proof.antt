@@ -3,8 +3,6 @@ use borrow.Author.Tests.{ne-eqb}
 use Rattle.evaluating.specs.Expression.{connectOf}
 use Rattle.evaluating.proofs.expressions.connect.Statement.{statement}
 use Rattle.evaluating.proofs.expressions.connect.Tie as tie
-use Rattle.evaluating.proofs.expressions.connect.Reads as reads
-use Rattle.evaluating.proofs.expressions.connect.Lts as lts
 
 returns : tie.Need-returns
 unfolding connectOf

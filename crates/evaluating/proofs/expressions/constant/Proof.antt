@@ -5,10 +5,6 @@ use Rattle.evaluating.specs.Expression.{single}
 use borrow.Author.Needs.{needs}
 use Rattle.evaluating.proofs.expressions.constant.Statement.{statement}
 use Rattle.evaluating.proofs.expressions.constant.Tie as tie
-use Rattle.evaluating.proofs.expressions.constant.Reads as reads
-use Rattle.evaluating.proofs.expressions.constant.Lts as lts
-use Rattle.integers.proofs.bytes.signed16.Reads as signed16-reads
-use Rattle.integers.proofs.state.widen.Reads as widen-reads
 
 shared-slice-read-signed16 : tie.Need-shared-slice-read-signed16
 shared-slice-read-signed16 c = search needs

@@ -5,9 +5,6 @@ use Rattle.evaluating.proofs.Steps.Part.{take-rest}
 use borrow.Author.Needs.{needs}
 use Rattle.evaluating.proofs.expressions.holds.Statement.{statement}
 use Rattle.evaluating.proofs.expressions.holds.Tie as tie
-use Rattle.evaluating.proofs.expressions.holds.Reads as reads
-use Rattle.evaluating.proofs.expressions.holds.Lts as lts
-use Rattle.evaluating.proofs.expressions.truth_at.Reads as truth-at-reads
 
 mul-truth-at : tie.Need-mul-truth-at
 mul-truth-at c = search needs

@@ -2,8 +2,6 @@
 use Rattle.evaluating.specs.Expression.{indicatorOf}
 use Rattle.evaluating.proofs.expressions.indicator.Statement.{statement}
 use Rattle.evaluating.proofs.expressions.indicator.Tie as tie
-use Rattle.evaluating.proofs.expressions.indicator.Reads as reads
-use Rattle.evaluating.proofs.expressions.indicator.Lts as lts
 
 returns : tie.Need-returns
 unfolding indicatorOf

@@ -5,9 +5,6 @@ use Rattle.evaluating.specs.Expression.{single}
 use borrow.Author.Needs.{needs}
 use Rattle.evaluating.proofs.expressions.variable.Statement.{statement}
 use Rattle.evaluating.proofs.expressions.variable.Tie as tie
-use Rattle.evaluating.proofs.expressions.variable.Reads as reads
-use Rattle.evaluating.proofs.expressions.variable.Lts as lts
-use Rattle.integers.proofs.state.widen.Reads as widen-reads
 
 shared-slice-read-a : tie.Need-shared-slice-read-a
 shared-slice-read-a c = search needs

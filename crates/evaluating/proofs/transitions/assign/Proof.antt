@@ -1,23 +1,17 @@
 -- `evaluating::transitions::assign` meets its contract: what is left to do to `next` gives what all the assignments do to `state`.
 -- Assumes nothing.
 use borrow.Author.Tests.{not-true, not-false}
-use mathlib.Core.Path.{_≡_, sym, ap, _∙_}
-use Prim.Native.Nat.{suc, _+_, _-_, _*_, _/_, _≤_, _<_}
+use mathlib.Core.Path.{sym, _∙_}
+use Prim.Native.Nat.{_-_, _/_}
 use native.Mathlib.Omega.{arith}
 use lib.ListN.{length}
 use mir.Syntax.{w64}
 use Rattle.integers.proofs.Laws.Parts.{back}
 use Rattle.parsing.proofs.Laws.Section.{kind-here}
-use Rattle.evaluating.specs.Transition.{assignmentAt, assignmentsFrom}
+use Rattle.evaluating.specs.Transition.{assignmentsFrom}
 use Rattle.evaluating.proofs.Steps.Transition.{fits-more, Left, left-begins, left-none, left-end, left-variable, left-out, left-more}
 use Rattle.evaluating.proofs.transitions.assign.Statement.{statement}
 use Rattle.evaluating.proofs.transitions.assign.Tie as tie
-use Rattle.evaluating.proofs.transitions.assign.Reads as reads
-use Rattle.evaluating.proofs.transitions.assign.Lts as lts
-use Rattle.evaluating.proofs.transitions.assignment_at.Reads as assignment-at-reads
-use Rattle.evaluating.proofs.transitions.in_range.Reads as in-range-reads
-use Rattle.evaluating.proofs.transitions.with.Reads as with-reads
-use Rattle.parsing.proofs.records.kind_is.Reads as kind-is-reads
 
 abbrev Inv-loop : tie.InvT-loop
 Inv-loop file first low high state next₀ at₀ left₀ next at left = Left low high file state (assignmentsFrom file (length file / 8) first state) next at left

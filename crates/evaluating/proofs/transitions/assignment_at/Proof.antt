@@ -1,7 +1,6 @@
 -- `evaluating::transitions::assignment_at` meets its contract. Assumes nothing.
-use Prim.Native.Nat.{_+_, _*_, _≤_}
+use Prim.Native.Nat.{_+_, _*_}
 use native.Mathlib.Omega.{arith}
-use lib.ListN.{length}
 use mir.Syntax.{w64}
 use Rattle.integers.proofs.Laws.Parts.{back}
 use Rattle.evaluating.specs.Expression.{numberAt}
@@ -12,10 +11,6 @@ use Rattle.evaluating.proofs.Steps.Transition.{behind-within}
 use borrow.Author.Needs.{needs}
 use Rattle.evaluating.proofs.transitions.assignment_at.Statement.{statement}
 use Rattle.evaluating.proofs.transitions.assignment_at.Tie as tie
-use Rattle.evaluating.proofs.transitions.assignment_at.Reads as reads
-use Rattle.evaluating.proofs.transitions.assignment_at.Lts as lts
-use Rattle.evaluating.proofs.expressions.number_at.Reads as number-at-reads
-use Rattle.parsing.proofs.records.byte_at.Reads as byte-at-reads
 
 mul-byte-at : tie.Need-mul-byte-at
 mul-byte-at c = search needs

@@ -6,10 +6,6 @@ use Rattle.evaluating.specs.Transition.{inRangeOf}
 use borrow.Author.Needs.{needs}
 use Rattle.evaluating.proofs.transitions.in_range.Statement.{statement}
 use Rattle.evaluating.proofs.transitions.in_range.Tie as tie
-use Rattle.evaluating.proofs.transitions.in_range.Reads as reads
-use Rattle.evaluating.proofs.transitions.in_range.Lts as lts
-use Rattle.integers.proofs.state.between.Reads as between-reads
-use Rattle.integers.proofs.state.element.Reads as element-reads
 
 element-requires : tie.Need-element-requires
 element-requires c κs = search needs

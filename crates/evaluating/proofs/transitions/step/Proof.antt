@@ -1,18 +1,13 @@
 -- `evaluating::transitions::step` meets its contract. Assumes nothing.
 use borrow.Author.Tests.{not-true, not-false}
-use mathlib.Core.Path.{sym, ap, _∙_}
-use Prim.Native.Nat.{_+_, _*_, _≤_}
+use mathlib.Core.Path.{sym, _∙_}
+use Prim.Native.Nat.{_+_, _*_}
 use native.Mathlib.Omega.{arith}
-use lib.ListN.{length}
 use Rattle.evaluating.proofs.Steps.Part.{take-rest}
 use Rattle.evaluating.proofs.Steps.Transition.{behind-within, guard-found, behind-found, step-off, step-on}
 use borrow.Author.Needs.{needs}
 use Rattle.evaluating.proofs.transitions.step.Statement.{statement}
 use Rattle.evaluating.proofs.transitions.step.Tie as tie
-use Rattle.evaluating.proofs.transitions.step.Reads as reads
-use Rattle.evaluating.proofs.transitions.step.Lts as lts
-use Rattle.evaluating.proofs.expressions.truth_at.Reads as truth-at-reads
-use Rattle.evaluating.proofs.transitions.assign.Reads as assign-reads
 
 add-from : tie.Need-add-from
 add-from c = omega (arith, c .before .pre .there)

@@ -1,14 +1,13 @@
 -- `evaluating::transitions::with` meets its contract. Assumes nothing.
-use mir.Syntax.{w16, w64}
+use lib.IntN.{pos}
+use lib.ListN.{getD}
+use mir.Syntax.{w16}
 use mir.Facts.{toZ-ofZ}
 use Rattle.integers.proofs.Laws.Parts.{back}
 use Rattle.evaluating.proofs.Laws.Transition.{in-range-ends}
 use borrow.Author.Needs.{needs}
 use Rattle.evaluating.proofs.transitions.with.Statement.{statement}
 use Rattle.evaluating.proofs.transitions.with.Tie as tie
-use Rattle.evaluating.proofs.transitions.with.Reads as reads
-use Rattle.evaluating.proofs.transitions.with.Lts as lts
-use Rattle.integers.proofs.state.assign.Reads as assign-reads
 
 mul-l : tie.Need-mul-l
 mul-l c = search needs
@@ -23,7 +22,7 @@ array-copy-out-h : tie.Need-array-copy-out-h
 array-copy-out-h c = search needs
 
 assign-requires : tie.Need-assign-requires
-assign-requires c κs = rw (back w16 _ (c .before .l .given), back w16 _ (c .h .given), toZ-ofZ (c .before .before .fits .x)) (c .before .before .pre .0, in-range-ends _ _ _ _ (c .before .before .pre .1))
+assign-requires c κs = let a = c .before .before .args in rw (back w16 (getD (a .t1) (a .i) (pos 0)) (c .before .l .given), back w16 (getD (a .t2) (a .i) (pos 0)) (c .h .given), toZ-ofZ (c .before .before .fits .x)) (c .before .before .pre .0, in-range-ends _ _ _ _ (c .before .before .pre .1))
 
 returns : tie.Need-returns
 returns c = rw (toZ-ofZ (c .before .before .before .fits .x)) at (c .assign .ensures)

@@ -3,7 +3,7 @@
 use mathlib.Core.Path.{_≡_}
 use mathlib.Core.List.{List, [], _∷_}
 use mathlib.Core.Bool.{Bool, true, cond, _&&_}
-use Prim.Native.Nat.{ℕ, zero, suc, _+_, _*_, _/_, _≤_, _<_}
+use Prim.Native.Nat.{ℕ, zero, suc, _+_, _/_, _<_}
 use lib.ListN.{length, getD, set}
 use lib.IntN.{ℤ, pos}
 use Rattle.integers.specs.Interval.{between}
@@ -77,6 +77,5 @@ AssignmentsFit file (suc n) at state =
     → (fieldA file at < 12) × Fits 16 numberSort (partAt file (at + 1)) state × AssignmentsFit file n (behind file (at + 1)) state
 
 pub record TransitionFits (file : List ℕ) (at : ℕ) (state : List ℤ) : Type 0 where
-  pub there : 8 * at + 8 ≤ length file
   pub guard : Fits 16 truthSort (partAt file (at + 1)) state
   pub assignments : AssignmentsFit file (length file / 8) (behind file (at + 1)) state

@@ -193,8 +193,7 @@ pub fn truth_at(part: &[u8], state: [i16; 12], levels: usize) -> Truth
 
 // Whether the truth expression at record `at` holds in the state.
 pub fn holds(file: &[u8], at: usize, state: [i16; 12]) -> bool
-    requires here { ⌜ 8 * at ≤ length (now file) ⌝ }
-    requires fits { ⌜ Fits 16 truthSort (partAt (now file) at) state ⌝ }
+    requires { ⌜ Fits 16 truthSort (partAt (now file) at) state ⌝ }
     ensures { λ r. ⌜ r ≡ holdsOf (now (file .entry)) at state ⌝ }
 {
     let found = truth_at(&file[8 * at..], state, 16);

@@ -7,7 +7,7 @@ use parsing::records::byte_at;
 use parsing::records::kind_is;
 ghost use mathlib.Core.Path.{_≡_};
 ghost use mathlib.Core.Bool.{true};
-ghost use Prim.Native.Nat.{_+_, _*_, _/_, _≤_, _<_};
+ghost use Prim.Native.Nat.{_+_, _/_, _<_};
 ghost use lib.ListN.{length, set};
 ghost use Rattle.parsing.specs.Kind.{number as numberSort};
 ghost use Rattle.evaluating.specs.Expression.{partAt, Fits};
@@ -56,8 +56,7 @@ fn with(low: [i16; 12], high: [i16; 12], state: [i16; 12], i: usize, x: i64) -> 
 
 // The assignment at record `at`, worked out from the state.
 fn assignment_at(file: &[u8], at: usize, state: [i16; 12]) -> Assignment
-    requires here { ⌜ 8 * at + 8 ≤ length (now file) ⌝ }
-    requires value { ⌜ Fits 16 numberSort (partAt (now file) (at + 1)) state ⌝ }
+    requires { ⌜ Fits 16 numberSort (partAt (now file) (at + 1)) state ⌝ }
     ensures { λ r. ⌜ r ≡ assignmentAt (now (file .entry)) at state ⌝ }
 {
     let variable = byte_at(file, 8 * at + 1) as usize;

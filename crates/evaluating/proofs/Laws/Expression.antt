@@ -2,7 +2,7 @@
 --     number-opens, truth-opens, span-opens     its worth and its number of records, by those of its operands
 --     fits-level, fits-there, fits-small        an expression that fits has a level and a record, and a number is small
 --     fits-opens                                its record fits, and so do its operands
---     fits-within                               all its records are there
+--     fits-within, fits-here                    all its records are there
 -- Assumes nothing.
 use mathlib.Core.Path.{_≡_, refl}
 use mathlib.Core.List.{List}
@@ -16,7 +16,7 @@ use Rattle.parsing.specs.declared.kinds.Form.the-variants.{Constant, Variable, 
 use Rattle.parsing.specs.Kind.{formAt, signatureOf, signatureAt}
 use Rattle.parsing.specs.Kind.{number as numberSort}
 use Rattle.parsing.specs.Walk.{spans, span}
-use Rattle.evaluating.specs.Expression.{first, second, numberBy, truthBy, number, truth, RecordFits, OperandsFit, Fits}
+use Rattle.evaluating.specs.Expression.{partAt, first, second, numberBy, truthBy, number, truth, RecordFits, OperandsFit, Fits}
 
 -- ---- opened
 module _ {levels below : ℕ} (e : levels ≡ suc below) (part : List ℕ) (state : List ℤ) {f : Form} (is : formAt part 0 ≡ f) where
@@ -81,3 +81,7 @@ fits-within (suc levels) want part state h =
     let s = signatureAt part 0 in
     operands-within (λ p. Fits levels (s .over) p state) levels part (s .operands) (operands-most (formAt part 0)) (h .0 .there)
     (λ p. fits-within levels (s .over) p state) (h .2)
+
+-- of an expression of a file
+pub fits-here : (file : List ℕ) (at levels want : ℕ) (state : List ℤ) → Fits levels want (partAt file at) state → 8 * at + 8 ≤ length file
+fits-here file at levels want state h = let l = fits-record levels want (partAt file at) state h .there in omega (arith, length-drop (8 * at) file)

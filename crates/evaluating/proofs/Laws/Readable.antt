@@ -132,7 +132,6 @@ module _ (file : List ℕ) (o : Outline) (r : readOf file ≡ Reading.Readable o
     transition-fits t l =
         let x = readable.transition file o r t l in
         record {
-          there = omega (arith, kind-here file 0x03 (x .place) (x .named));
           guard = fits _ _ _ _ (x .guard);
           assignments = rw (behind-is file (o .vars) (x .end) (x .guard)) (assignments-fit file (o .vars) (x .end) state most (fits numberSort) (length file / 8) (x .behind) (x .assignments));
         }

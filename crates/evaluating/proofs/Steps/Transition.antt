@@ -14,13 +14,13 @@ use Rattle.evaluating.specs.declared.expressions.Truth.{Truth}
 use Rattle.evaluating.specs.declared.transitions.Assigned.{Assigned}
 use Rattle.evaluating.specs.declared.transitions.Stepped.{Stepped}
 use Rattle.evaluating.specs.Transition.{behind, assignmentAt, assignmentsFrom, inRangeOf, allInRange, assigned, guardOf, assignmentsOf, enabledOf, successorOf, assignOf, stepOf, AssignmentsFit}
-use Rattle.evaluating.proofs.Laws.Expression.{fits-within}
+use Rattle.evaluating.proofs.Laws.Expression.{fits-within, fits-here}
 
 -- the expression at a record ends within the file
-pub behind-within : (want : ℕ) (file : List ℕ) (at : ℕ) (state : List ℤ) → 8 * at + 8 ≤ length file → Fits 16 want (partAt file (at + 1)) state
-    → 8 * behind file (at + 1) ≤ length file
+pub behind-within : (want : ℕ) (file : List ℕ) (at : ℕ) (state : List ℤ) → Fits 16 want (partAt file at) state → 8 * behind file at ≤ length file
 unfolding behind
-behind-within want file at state l h = omega (arith, fits-within 16 want (partAt file (at + 1)) state h, length-drop (8 * (at + 1)) file)
+behind-within want file at state h =
+    omega (arith, fits-here file at 16 want state h, fits-within 16 want (partAt file at) state h, length-drop (8 * at) file)
 
 -- ---- the assignments from a record on
 module _ (file : List ℕ) (at : ℕ) (state : List ℤ) where

@@ -7,7 +7,6 @@ use native.Mathlib.Omega.{arith}
 use lib.ListN.{length}
 use mir.Syntax.{w64}
 use Rattle.integers.proofs.Laws.Parts.{back}
-use Rattle.parsing.proofs.Laws.Section.{kind-here}
 use Rattle.evaluating.specs.Transition.{assignmentsFrom}
 use Rattle.evaluating.proofs.Steps.Transition.{fits-more, Left, left-begins, left-none, left-end, left-variable, left-out, left-more}
 use Rattle.evaluating.proofs.transitions.assign.Statement.{statement}
@@ -29,7 +28,7 @@ returns : tie.Need-returns Inv-loop μ-loop
 returns c = left-none _ _ _ _ _ (c .before .before .before .loop .inv) (sym (c .before .kind-is .ensures) ∙ not-true _ (c .if1 .taken))
 
 assignment-at-requires : tie.Need-assignment-at-requires Inv-loop μ-loop
-assignment-at-requires c κs = (omega (arith, kind-here _ _ _ (sym (c .before .kind-is .ensures) ∙ not-false _ (c .if1 .left))), fits-more _ _ _ {n = c .before .before .before .loop .left - 1} (omega (arith, c .before .before .loop-test .taken)) (sym (c .before .kind-is .ensures) ∙ not-false _ (c .if1 .left)) (c .before .before .before .loop .inv .fit) .1)
+assignment-at-requires c κs = fits-more _ _ _ {n = c .before .before .before .loop .left - 1} (omega (arith, c .before .before .loop-test .taken)) (sym (c .before .kind-is .ensures) ∙ not-false _ (c .if1 .left)) (c .before .before .before .loop .inv .fit) .1
 
 in-range-requires : tie.Need-in-range-requires Inv-loop μ-loop
 in-range-requires c κs = left-variable _ _ _ _ _ (c .before .before .before .before .before .loop .inv) (c .before .before .before .before .before .loop .left - 1) (omega (arith, c .before .before .before .before .loop-test .taken)) (sym (c .before .before .before .kind-is .ensures) ∙ not-false _ (c .before .before .if1 .left)) (c .before .assignment-at .ensures)

@@ -1,5 +1,7 @@
 -- `evaluating::transitions::assignment_at` meets its contract. Assumes nothing.
 use Prim.Native.Nat.{_+_, _*_}
+use Rattle.parsing.specs.Kind.{number as numberSort}
+use Rattle.evaluating.proofs.Laws.Expression.{fits-here}
 use native.Mathlib.Omega.{arith}
 use mir.Syntax.{w64}
 use Rattle.integers.proofs.Laws.Parts.{back}
@@ -13,10 +15,10 @@ use Rattle.evaluating.proofs.transitions.assignment_at.Statement.{state
 use Rattle.evaluating.proofs.transitions.assignment_at.Tie as tie
 
 mul-byte-at : tie.Need-mul-byte-at
-mul-byte-at c = search needs
+mul-byte-at c = omega (arith, fits-here (c .before .args .file .now) (c .before .args .at + 1) 16 numberSort (c .before .args .state) (c .before .pre))
 
 add-byte-at : tie.Need-add-byte-at
-add-byte-at c = search needs
+add-byte-at c = omega (arith, fits-here (c .before .args .file .now) (c .before .args .at + 1) 16 numberSort (c .before .args .state) (c .before .pre))
 
 byte-at-requires : tie.Need-byte-at-requires
 byte-at-requires c κs = search needs
@@ -25,26 +27,26 @@ cast-variable : tie.Need-cast-variable
 cast-variable c = search needs
 
 add-from : tie.Need-add-from
-add-from c = search needs
+add-from c = omega (arith, fits-here (c .before .before .args .file .now) (c .before .before .args .at + 1) 16 numberSort (c .before .before .args .state) (c .before .before .pre))
 
 mul-number-at : tie.Need-mul-number-at
-mul-number-at c = search needs
+mul-number-at c = omega (arith, fits-here (c .before .before .args .file .now) (c .before .before .args .at + 1) 16 numberSort (c .before .before .args .state) (c .before .before .pre))
 
 sub-number-at : tie.Need-sub-number-at
-sub-number-at c = search needs
+sub-number-at c = omega (arith, fits-here (c .before .before .args .file .now) (c .before .before .args .at + 1) 16 numberSort (c .before .before .args .state) (c .before .before .pre))
 
 part-number-at-start : tie.Need-part-number-at-start
-part-number-at-start c = search needs
+part-number-at-start c = omega (arith, fits-here (c .before .before .args .file .now) (c .before .before .args .at + 1) 16 numberSort (c .before .before .args .state) (c .before .before .pre))
 
 part-number-at-end : tie.Need-part-number-at-end
 part-number-at-end c = search needs
 
 number-at-requires : tie.Need-number-at-requires
-number-at-requires c κs = rw (take-rest (8 * (c .before .before .before .args .at + 1)) (c .before .before .before .args .file .now)) (c .before .before .before .pre .1)
+number-at-requires c κs = rw (take-rest (8 * (c .before .before .before .args .at + 1)) (c .before .before .before .args .file .now)) (c .before .before .before .pre)
 
 add-t8 : tie.Need-add-t8
 unfolding behind
-add-t8 c = omega (arith, behind-within _ _ _ _ (c .before .before .before .before .before .pre .0) (c .before .before .before .before .before .pre .1), number-records _ _ _ (rw (take-rest (8 * (c .before .before .before .before .before .args .at + 1)) (c .before .before .before .before .before .args .file .now)) at (c .before .number-at .ensures)))
+add-t8 c = omega (arith, behind-within numberSort (c .before .before .before .before .before .args .file .now) (c .before .before .before .before .before .args .at + 1) (c .before .before .before .before .before .args .state) (c .before .before .before .before .before .pre), number-records _ _ _ (rw (take-rest (8 * (c .before .before .before .before .before .args .at + 1)) (c .before .before .before .before .before .args .file .now)) at (c .before .number-at .ensures)))
 
 returns : tie.Need-returns
 unfolding assignmentAt behind numberAt

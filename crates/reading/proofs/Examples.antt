@@ -1,9 +1,9 @@
 -- The marked examples of document 01, A to J and "Others", read as it says, and files that each pin down one choice in reading it: one table of files
--- and answers, which antt computes, and one theorem, that at each of its rows `readOf` gives the answer. A file is written as the list of its records.
+-- and answers, which antt computes, and one theorem, that at each of its rows `readOf` gives the answer.
 -- Assumes nothing.
-use mathlib.Core.Path.{_≡_, refl, sym, ap, _∙_}
-use mathlib.Core.List.{List, [], _∷_, _++_, map, flatten, List·Memᴰ, List·Memᴰ·head, List·Memᴰ·tail, head-eq-of-cons-eq, tail-eq-of-cons-eq}
-use Prim.Native.Nat.{ℕ, _*_, _/_, _%_}
+use mathlib.Core.Path.{_≡_, refl}
+use mathlib.Core.List.{List, [], _∷_, _++_, map, flatten, List·Memᴰ}
+use Prim.Native.Nat.{ℕ}
 use lib.ListN.{take, drop, set, replicate}
 use Rattle.integers.specs.Bytes
 use Rattle.integers.specs.Interval as Ends
@@ -20,124 +20,7 @@ use Rattle.reading.specs.Interval
 use Rattle.reading.specs.Edge
 use Rattle.reading.specs.Read
 use Rattle.reading.specs.Read.{readOf}
-
--- ---- records
--- the eight bytes of a record, given as one hexadecimal number
-abbrev bytes : ℕ → List ℕ
-bytes n =
-    n / 0x100000000000000 ∷ n / 0x1000000000000 % 256 ∷ n / 0x10000000000 % 256 ∷ n / 0x100000000 % 256 ∷
-    n / 0x1000000 % 256 ∷ n / 0x10000 % 256 ∷ n / 0x100 % 256 ∷ n % 256 ∷ []
-
--- "bytes 0-5 given (6-7 zero)"
-abbrev given : ℕ → List ℕ
-given n = bytes (n * 0x10000)
-
--- a record of this kind, by its a, b, c and d
-abbrev entry : ℕ → ℕ → ℕ → ℕ → ℕ → List ℕ
-entry kind a b c d = kind ∷ a ∷ b % 256 ∷ b / 256 ∷ c % 256 ∷ c / 256 ∷ d ∷ 0 ∷ []
-
-abbrev range : ℕ → ℕ → List ℕ
-range b c = entry 0x01 0 b c 0
-
-abbrev start : List ℕ
-start = entry 0x02 0 0 0 0
-
-abbrev transition : ℕ → List ℕ
-transition a = entry 0x03 a 0 0 0
-
-abbrev assignment : ℕ → List ℕ
-assignment a = entry 0x04 a 0 0 0
-
-abbrev property : ℕ → ℕ → List ℕ
-property a b = entry 0x05 a b 0 0
-
-abbrev node : List ℕ
-node = entry 0x06 0 0 0 0
-
-abbrev single : ℕ → ℕ → ℕ → List ℕ
-single a b c = entry 0x07 a b c 0
-
-abbrev double : ℕ → ℕ → ℕ → List ℕ
-double a b c = entry 0x07 a b c 1
-
-abbrev constant : ℕ → List ℕ
-constant b = entry 0x10 0 b 0 0
-
-abbrev variable : ℕ → List ℕ
-variable a = entry 0x11 a 0 0 0
-
--- a kind that names no field
-abbrev plain : ℕ → List ℕ
-plain kind = entry kind 0 0 0 0
-
-abbrev true : List ℕ
-true = plain 0x20
-
-abbrev not : List ℕ
-not = plain 0x22
-
--- variable a is the constant b
-abbrev is : ℕ → ℕ → List (List ℕ)
-is a b = plain 0x27 ∷ variable a ∷ constant b ∷ []
-
-abbrev product : ℕ → ℕ → List (List ℕ)
-product b c = plain 0x14 ∷ constant b ∷ constant c ∷ []
-
--- ---- the marked examples
--- "File A, 21 records, bytes 0-5 given (6-7 zero)"
-abbrev A : List (List ℕ)
-A =
-    map given (
-    0x010000000200 ∷ 0x020000000000 ∷ 0x270000000000 ∷ 0x110000000000 ∷ 0x100000000000 ∷ 0x030000000000 ∷ 0x280000000000 ∷
-    0x110000000000 ∷ 0x100002000000 ∷ 0x040000000000 ∷ 0x120000000000 ∷ 0x110000000000 ∷ 0x100001000000 ∷ 0x050100000000 ∷
-    0x290000000000 ∷ 0x110000000000 ∷ 0x100002000000 ∷ 0x060000000000 ∷ 0x290000000000 ∷ 0x110000000000 ∷ 0x100001000000 ∷ [])
-
--- "A's last constant 2"
-abbrev B : List (List ℕ)
-B = set A 20 (constant 2)
-
--- "B with guard true"
-abbrev C : List (List ℕ)
-C = take 6 B ++ (true ∷ drop 9 B)
-
--- "nodes v = 2, v = 1, v = 0"
-abbrev nodes : List (List ℕ)
-nodes = (node ∷ is 0 2) ++ (node ∷ is 0 1) ++ (node ∷ is 0 0)
-
--- "chain, A's variable, start and step (just), p true, q v = 2, nodes .., double edges 2 to 1, 1 to 0"
-abbrev D : List (List ℕ)
-D = set (take 13 A) 5 (transition 1) ++ (property 3 0 ∷ true ∷ is 0 2) ++ nodes ++ (double 0 2 1 ∷ double 0 1 0 ∷ [])
-
--- "D with 2 to 0 for 2 to 1"
-abbrev E : List (List ℕ)
-E = set D 30 (double 0 2 0)
-
--- "D not just"
-abbrev F : List (List ℕ)
-F = set D 5 (transition 0)
-
--- "D without 2 to 1"
-abbrev G : List (List ℕ)
-G = take 30 D ++ drop 31 D
-
--- "wait-for, same nodes as phases, p v = 0, single edges"
-abbrev H : List (List ℕ)
-H = take 13 D ++ (property 2 3 ∷ is 0 0 ++ is 0 2 ++ is 0 1 ++ is 0 0) ++ nodes ++ (single 0 2 1 ∷ single 0 1 0 ∷ [])
-
--- "H with edge 1 to 2 added"
-abbrev I : List (List ℕ)
-I = H ++ (single 0 1 2 ∷ [])
-
--- "a and b in 0..1, start a = 0 and b = 1, one step, guard true, swaps them, node and q "not a = b""
-abbrev J : List (List ℕ)
-J =
-    (range 0 1 ∷ range 0 1 ∷ start ∷ plain 0x23 ∷ is 0 0 ++ is 1 1) ++
-    (transition 0 ∷ true ∷ assignment 0 ∷ variable 1 ∷ assignment 1 ∷ variable 0 ∷ []) ++
-    (property 1 0 ∷ differ) ++
-    (node ∷ differ)
-  where
-    differ : List (List ℕ)
-    differ = not ∷ plain 0x27 ∷ variable 0 ∷ variable 1 ∷ []
+use Rattle.reading.proofs.Files.{bytes, given, entry, range, start, transition, property, node, single, double, constant, plain, true, not, product, A, B, C, nodes, D, E, F, G, H, I, J, agree}
 
 -- ---- small files
 -- start, q and one node, all true, behind these variables
@@ -270,11 +153,6 @@ unfolding flatten Bytes.signed16 Ends.minZ Ends.maxZ Ends.around Ends.overEnds E
     Edge.descending Edge.transitionAt Edge.justOf Edge.conflictOf Edge.chainRuleOf Edge.ruleOf Edge.rulesOf Edge.doubleFrom Edge.doubledOf Edge.doublesOf
     Read.stagesRead Read.parsedRead Read.readOf
 columns = refl
-
--- two functions that give one column agree at each of its rows
-agree : {X Y : Type 0} (f g : X → Y) {rows : List X} → map f rows ≡ map g rows → (row : X) → List·Memᴰ row rows → f row ≡ g row
-agree f g e row (List·Memᴰ·head same) = ap f same ∙ head-eq-of-cons-eq e ∙ sym (ap g same)
-agree f g e row (List·Memᴰ·tail member) = agree f g (tail-eq-of-cons-eq e) row member
 
 pub examples : (row : Row) → List·Memᴰ row table → readOf (flatten (row .0)) ≡ row .1
 examples = agree (λ row. readOf (flatten (row .0))) (λ row. row .1) columns

@@ -1,0 +1,130 @@
+-- The marked examples of document 01 as files, for tables of examples here and in the crates above. A file is written as the list of its records.
+-- Assumes nothing.
+use mathlib.Core.Path.{_≡_, sym, ap, _∙_}
+use mathlib.Core.List.{List, [], _∷_, _++_, map, List·Memᴰ, List·Memᴰ·head, List·Memᴰ·tail, head-eq-of-cons-eq, tail-eq-of-cons-eq}
+use Prim.Native.Nat.{ℕ, _*_, _/_, _%_}
+use lib.ListN.{take, drop, set}
+
+-- ---- tables
+-- two functions that give one column agree at each of its rows
+pub agree : {X Y : Type 0} (f g : X → Y) {rows : List X} → map f rows ≡ map g rows → (row : X) → List·Memᴰ row rows → f row ≡ g row
+agree f g e row (List·Memᴰ·head same) = ap f same ∙ head-eq-of-cons-eq e ∙ sym (ap g same)
+agree f g e row (List·Memᴰ·tail member) = agree f g (tail-eq-of-cons-eq e) row member
+
+-- ---- records
+-- the eight bytes of a record, given as one hexadecimal number
+abbrev pub bytes : ℕ → List ℕ
+bytes n =
+    n / 0x100000000000000 ∷ n / 0x1000000000000 % 256 ∷ n / 0x10000000000 % 256 ∷ n / 0x100000000 % 256 ∷
+    n / 0x1000000 % 256 ∷ n / 0x10000 % 256 ∷ n / 0x100 % 256 ∷ n % 256 ∷ []
+
+-- "bytes 0-5 given (6-7 zero)"
+abbrev pub given : ℕ → List ℕ
+given n = bytes (n * 0x10000)
+
+-- a record of this kind, by its a, b, c and d
+abbrev pub entry : ℕ → ℕ → ℕ → ℕ → ℕ → List ℕ
+entry kind a b c d = kind ∷ a ∷ b % 256 ∷ b / 256 ∷ c % 256 ∷ c / 256 ∷ d ∷ 0 ∷ []
+
+abbrev pub range : ℕ → ℕ → List ℕ
+range b c = entry 0x01 0 b c 0
+
+abbrev pub start : List ℕ
+start = entry 0x02 0 0 0 0
+
+abbrev pub transition : ℕ → List ℕ
+transition a = entry 0x03 a 0 0 0
+
+abbrev pub assignment : ℕ → List ℕ
+assignment a = entry 0x04 a 0 0 0
+
+abbrev pub property : ℕ → ℕ → List ℕ
+property a b = entry 0x05 a b 0 0
+
+abbrev pub node : List ℕ
+node = entry 0x06 0 0 0 0
+
+abbrev pub single : ℕ → ℕ → ℕ → List ℕ
+single a b c = entry 0x07 a b c 0
+
+abbrev pub double : ℕ → ℕ → ℕ → List ℕ
+double a b c = entry 0x07 a b c 1
+
+abbrev pub constant : ℕ → List ℕ
+constant b = entry 0x10 0 b 0 0
+
+abbrev pub variable : ℕ → List ℕ
+variable a = entry 0x11 a 0 0 0
+
+-- a kind that names no field
+abbrev pub plain : ℕ → List ℕ
+plain kind = entry kind 0 0 0 0
+
+abbrev pub true : List ℕ
+true = plain 0x20
+
+abbrev pub not : List ℕ
+not = plain 0x22
+
+-- variable a is the constant b
+abbrev pub is : ℕ → ℕ → List (List ℕ)
+is a b = plain 0x27 ∷ variable a ∷ constant b ∷ []
+
+abbrev pub product : ℕ → ℕ → List (List ℕ)
+product b c = plain 0x14 ∷ constant b ∷ constant c ∷ []
+
+-- ---- the marked examples
+-- "File A, 21 records, bytes 0-5 given (6-7 zero)"
+abbrev pub A : List (List ℕ)
+A =
+    map given (
+    0x010000000200 ∷ 0x020000000000 ∷ 0x270000000000 ∷ 0x110000000000 ∷ 0x100000000000 ∷ 0x030000000000 ∷ 0x280000000000 ∷
+    0x110000000000 ∷ 0x100002000000 ∷ 0x040000000000 ∷ 0x120000000000 ∷ 0x110000000000 ∷ 0x100001000000 ∷ 0x050100000000 ∷
+    0x290000000000 ∷ 0x110000000000 ∷ 0x100002000000 ∷ 0x060000000000 ∷ 0x290000000000 ∷ 0x110000000000 ∷ 0x100001000000 ∷ [])
+
+-- "A's last constant 2"
+abbrev pub B : List (List ℕ)
+B = set A 20 (constant 2)
+
+-- "B with guard true"
+abbrev pub C : List (List ℕ)
+C = take 6 B ++ (true ∷ drop 9 B)
+
+-- "nodes v = 2, v = 1, v = 0"
+abbrev pub nodes : List (List ℕ)
+nodes = (node ∷ is 0 2) ++ (node ∷ is 0 1) ++ (node ∷ is 0 0)
+
+-- "chain, A's variable, start and step (just), p true, q v = 2, nodes .., double edges 2 to 1, 1 to 0"
+abbrev pub D : List (List ℕ)
+D = set (take 13 A) 5 (transition 1) ++ (property 3 0 ∷ true ∷ is 0 2) ++ nodes ++ (double 0 2 1 ∷ double 0 1 0 ∷ [])
+
+-- "D with 2 to 0 for 2 to 1"
+abbrev pub E : List (List ℕ)
+E = set D 30 (double 0 2 0)
+
+-- "D not just"
+abbrev pub F : List (List ℕ)
+F = set D 5 (transition 0)
+
+-- "D without 2 to 1"
+abbrev pub G : List (List ℕ)
+G = take 30 D ++ drop 31 D
+
+-- "wait-for, same nodes as phases, p v = 0, single edges"
+abbrev pub H : List (List ℕ)
+H = take 13 D ++ (property 2 3 ∷ is 0 0 ++ is 0 2 ++ is 0 1 ++ is 0 0) ++ nodes ++ (single 0 2 1 ∷ single 0 1 0 ∷ [])
+
+-- "H with edge 1 to 2 added"
+abbrev pub I : List (List ℕ)
+I = H ++ (single 0 1 2 ∷ [])
+
+-- "a and b in 0..1, start a = 0 and b = 1, one step, guard true, swaps them, node and q "not a = b""
+abbrev pub J : List (List ℕ)
+J =
+    (range 0 1 ∷ range 0 1 ∷ start ∷ plain 0x23 ∷ is 0 0 ++ is 1 1) ++
+    (transition 0 ∷ true ∷ assignment 0 ∷ variable 1 ∷ assignment 1 ∷ variable 0 ∷ []) ++
+    (property 1 0 ∷ differ) ++
+    (node ∷ differ)
+  where
+    differ : List (List ℕ)
+    differ = not ∷ plain 0x27 ∷ variable 0 ∷ variable 1 ∷ []

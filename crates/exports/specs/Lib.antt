@@ -1,2 +1,3 @@
 -- What the library answers.
 pub mod Answer
+pub mod Starting

@@ -1,4 +1,4 @@
--- The definitions, computed on constant examples: for numbers, truths, ranges, states and transitions each a table of questions and answers, and one
+-- The definitions, computed on small examples: for numbers, truths, ranges, states and transitions each a table of questions and answers, and one
 -- theorem, that the definition gives the answer at each of its rows. Assumes nothing.
 use mathlib.Core.Path.{_≡_, refl}
 use mathlib.Core.Bool.{Bool, true, false}
@@ -137,8 +137,8 @@ numbers =
     []
 
 numbers-hold : Answers (λ part. Expression.number 16 part here) numbers
-unfolding Bytes.signed16 Tests.eqZ Kind.within Kind.formOf Kind.signatureOf Walk.spans Walk.span Interval.combine
-    Expression.first Expression.second Expression.indicatorOf Expression.connectOf Expression.compareOf
+unfolding Bytes.signed16 Kind.within Kind.formOf Kind.signatureOf Walk.spans Walk.span Interval.combine
+    Expression.first Expression.second Expression.indicatorOf Expression.compareOf
     Expression.numberBy Expression.truthBy Expression.number
 numbers-hold = answers (λ part. Expression.number 16 part here) numbers refl
 
@@ -228,7 +228,7 @@ abbrev twelve : List ℕ
 twelve = flatten (replicate 12 (range 0 1))
 
 -- ---- truths of a file
--- a file, a record and a state
+-- a file, a record and a state; whether the truth there holds
 abbrev assertions : List ((List ℕ × ℕ × List ℤ) × Bool)
 assertions =
     -- A's start, v = 0, its q, v ≤ 2, and its node, v ≤ 1
@@ -248,8 +248,8 @@ abbrev holding : List ℕ × ℕ × List ℤ → Bool
 holding (file, at, state) = Expression.holdsOf file at state
 
 assertions-hold : Answers holding assertions
-unfolding flatten Bytes.signed16 Tests.eqZ Kind.within Kind.formOf Kind.signatureOf Walk.spans Walk.span Interval.combine
-    Expression.first Expression.second Expression.indicatorOf Expression.connectOf Expression.compareOf
+unfolding flatten Bytes.signed16 Tests.eqZ Kind.within Kind.formOf Kind.signatureOf Walk.spans Walk.span
+    Expression.first Expression.second Expression.connectOf Expression.compareOf
     Expression.numberBy Expression.truthBy Expression.truth Expression.holdsOf
 assertions-hold = answers holding assertions refl
 
@@ -335,7 +335,7 @@ steps =
     ((J, 2, 10, two (pos 0) (pos 1)), (stepped true true (two (pos 1) (pos 0)), two (pos 1) (pos 0))) ∷
     ((J, 2, 10, two (pos 1) (pos 0)), (stepped true true (two (pos 0) (pos 1)), two (pos 0) (pos 1))) ∷
     ((J, 2, 10, two (pos 1) (pos 1)), (stepped true true (two (pos 1) (pos 1)), two (pos 1) (pos 1))) ∷
-    -- b := 0, a := a + 1, where a is 1: the first value is in range, the second not, so neither is assigned
+    -- b := 0, a := a + 1: where a is 1, the first value is in range and the second not, so neither is assigned
     ((both, 2, 2, two (pos 1) (pos 1)), (stepped true false (two (pos 1) (pos 1)), two (pos 2) (pos 0))) ∷
     ((both, 2, 2, two (pos 0) (pos 1)), (stepped true true (two (pos 1) (pos 0)), two (pos 1) (pos 0))) ∷
     []
@@ -350,8 +350,8 @@ abbrev stepsOf : List ℕ × ℕ × ℕ × List ℤ → Stepped × List ℤ
 stepsOf (file, vars, at, state) = (stepOf (lowsOf file vars) (highsOf file vars) file at state, successorOf file at state)
 
 steps-hold : Answers stepsOf steps
-unfolding flatten Bytes.signed16 Tests.eqZ Record.kindIs Kind.within Kind.formOf Kind.signatureOf Walk.spans Walk.span Place.tabulate Interval.combine
-    Expression.first Expression.second Expression.indicatorOf Expression.connectOf Expression.compareOf
+unfolding flatten Bytes.signed16 Record.kindIs Kind.within Kind.formOf Kind.signatureOf Walk.spans Walk.span Place.tabulate Interval.combine
+    Expression.first Expression.second Expression.compareOf
     Expression.numberBy Expression.truthBy Expression.number Expression.truth State.endsOf
     Transition.behind Transition.assignmentAt Transition.assignmentsFrom Transition.inRangeOf Transition.allInRange Transition.assigned
     Transition.guardOf Transition.assignmentsOf Transition.enabledOf Transition.successorOf Transition.stepOf

@@ -1,7 +1,7 @@
 //! The examples of document 01, as far as reading goes.
 
-use differential::generate::record;
-use differential::Answer;
+use crate::generate::record;
+use crate::Answer;
 
 type Records = Vec<[u8; 8]>;
 

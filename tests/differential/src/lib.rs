@@ -1,6 +1,7 @@
-//! Compares the reading layer of the verification diagram checker, linked as a C library, with a
-//! model of document 01.
+//! Compares the verification diagram checker, linked as a C library, with a model of document 01:
+//! reading, and the count of starting states.
 
+pub mod fixed;
 pub mod generate;
 pub mod library;
 pub mod model;
@@ -29,6 +30,19 @@ pub struct Answer {
     /// The first edge's record, or the record count where there are no edges.
     pub edge: usize,
     pub edges: usize,
+}
+
+/// How many states a file has, and how many of them are starting states.
+#[repr(C)]
+#[derive(Clone, Copy, Debug, Default, PartialEq, Eq)]
+pub struct Starting {
+    /// 0 for a readable file, else the refusal's number, 2 to 10.
+    pub number: usize,
+    /// The refusal's place, 0 for a readable file.
+    pub place: usize,
+    /// This and the next are 0 in a refusal.
+    pub states: usize,
+    pub starting: usize,
 }
 
 /// Said first by the programs, so that nobody takes the stub's answers for the library's.

@@ -1,10 +1,8 @@
 //! `differential [CASES] [SEED]` reads random files and the examples of document 01 with the
-//! library and with the model, and tells where they differ.
-
-mod fixed;
+//! library and with the model, counts their starting states, and tells where they differ.
 
 use differential::generate::{self, Random};
-use differential::{library, model};
+use differential::{fixed, library, model, Answer, Starting};
 use std::collections::HashSet;
 use std::process::ExitCode;
 
@@ -12,6 +10,8 @@ const CASES: u64 = 300_000;
 const SEED: u64 = 0x5eed;
 /// Every answer number must come up this often in CASES cases.
 const LEAST: u64 = 100;
+/// Starting states are counted in files that have at most this many states.
+const STATES: usize = 4096;
 /// So many differing files are shown.
 const SHOWN: usize = 5;
 /// Shrinking such a file reads at most this many bytes.
@@ -26,6 +26,10 @@ struct Bulk {
     cases: u64,
     differing: u64,
     places: HashSet<usize>,
+    /// Those whose starting states were counted, and those of them where some states are starting
+    /// states and some are not.
+    counted: u64,
+    mixed: u64,
 }
 
 fn main() -> ExitCode {
@@ -64,6 +68,10 @@ fn main() -> ExitCode {
         let name = format!("random cases of number {number}, at least {least}");
         test(name, bulk.differing == 0 && bulk.cases >= least);
     }
+    let Bulk { counted, mixed, .. } = bulks[0];
+    println!("starting states counted in {counted} files, in {mixed} of them neither none nor all");
+    let name = format!("random cases where some states are starting states, at least {least}");
+    test(name, mixed >= least);
 
     for (name, file, expected) in fixed::cases() {
         let (found, modelled) = (library::read(&file), model::read(&file));
@@ -91,11 +99,15 @@ fn random_cases(cases: u64, seed: u64) -> Vec<Bulk> {
     let mut shown = 0;
     for case in 0..cases {
         let file = generate::file(&mut Random::new(seed, case));
-        let answer = model::read(&file);
+        let (answer, starting) = model::answers(&file, STATES);
         let bulk = &mut bulks[answer.number];
         bulk.cases += 1;
         bulk.places.insert(answer.place);
-        if library::read(&file) != answer {
+        if let Some(found) = starting {
+            bulk.counted += 1;
+            bulk.mixed += u64::from(0 < found.starting && found.starting < found.states);
+        }
+        if library_answers(&file, starting.is_some()) != (answer, starting) {
             bulk.differing += 1;
             if shown < SHOWN {
                 shown += 1;
@@ -106,8 +118,15 @@ fn random_cases(cases: u64, seed: u64) -> Vec<Bulk> {
     bulks
 }
 
+/// What the library answers; its count of starting states only if wanted.
+fn library_answers(file: &[u8], wanted: bool) -> (Answer, Option<Starting>) {
+    let starting = wanted.then(|| library::starting_states(file));
+    (library::read(file), starting)
+}
+
 fn differs(file: &[u8]) -> bool {
-    library::read(file) != model::read(file)
+    let modelled = model::answers(file, STATES);
+    library_answers(file, modelled.1.is_some()) != modelled
 }
 
 /// Deletes runs of records while the answers still differ: long runs, then ever shorter ones.
@@ -142,6 +161,7 @@ fn show(case: u64, file: &[u8]) {
         let digits: String = record.iter().map(|byte| format!("{byte:02x}")).collect();
         print!(" {digits}");
     }
-    println!("\n  library  {:?}", library::read(file));
-    println!("  model    {:?}", model::read(file));
+    let modelled = model::answers(file, STATES);
+    let found = library_answers(file, modelled.1.is_some());
+    println!("\n  library  {found:?}\n  model    {modelled:?}");
 }

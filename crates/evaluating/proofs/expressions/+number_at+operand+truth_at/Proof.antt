@@ -81,53 +81,90 @@ truth-at-claims t =
 
 module _ (t : ℕ) where
   -- ---- the operands of `number_at`
-  number-first : (c : number-at-lts.After-enum-told3 (number-at-claims t) (number-at-at t) number-at.Post) → Fits (c .before .before .before .before .before .before .args .levels - 1) numberSort (c .before .before .after .result .now) (c .before .before .before .before .before .before .args .state)
+  number-first : (c : number-at-lts.After-enum-told3 (number-at-claims t) (number-at-at t) number-at.Post) → Fits
+      (c .before .before .before .before .before .before .args .levels - 1) numberSort (c .before .before .after .result .now)
+      (c .before .before .before .before .before .before .args .state)
   unfolding signatureOf
-  number-first c = first-fits _ _ _ _ (c .before .before .before .before .before .before .pre .1) (sym (c .before .before .before .form-of .ensures) ∙ c .enum-told3 .given .1) refl (c .before .before .after .ensures)
+  number-first c = first-fits _ _ _ _ (c .before .before .before .before .before .before .pre .1)
+      (sym (c .before .before .before .form-of .ensures) ∙ c .enum-told3 .given .1) refl (c .before .before .after .ensures)
 
-  number-middle : (c : number-at-lts.After-struct-known (number-at-claims t) (number-at-at t) number-at.Post) → 8 * (1 + c .before .operand .result .records) ≤ length (c .before .before .before .before .before .before .before .before .args .part .now)
-  number-middle c = operand-within _ _ _ _ (c .before .before .before .before .before .before .before .before .pre .1) _ (c .before .before .before .before .after .ensures) (number-first (c .before .before)) (number-records _ _ _ (c .before .operand .ensures))
+  number-middle : (c : number-at-lts.After-struct-known (number-at-claims t) (number-at-at t) number-at.Post)
+      → 8 * (1 + c .before .operand .result .records) ≤ length (c .before .before .before .before .before .before .before .before .args .part .now)
+  number-middle c = operand-within _ _ _ _ (c .before .before .before .before .before .before .before .before .pre .1)
+      _ (c .before .before .before .before .after .ensures) (number-first (c .before .before)) (number-records _ _ _ (c .before .operand .ensures))
 
-  number-second : (c : number-at-lts.After-after2 (number-at-claims t) (number-at-at t) number-at.Post) → Fits (c .before .before .before .before .before .before .before .before .before .args .levels - 1) numberSort (c .after2 .result .now) (c .before .before .before .before .before .before .before .before .before .args .state)
+  number-second : (c : number-at-lts.After-after2 (number-at-claims t) (number-at-at t) number-at.Post) → Fits
+      (c .before .before .before .before .before .before .before .before .before .args .levels - 1) numberSort (c .after2 .result .now)
+      (c .before .before .before .before .before .before .before .before .before .args .state)
   unfolding signatureOf
-  number-second c = second-fits _ _ _ _ (c .before .before .before .before .before .before .before .before .before .pre .1) (sym (c .before .before .before .before .before .before .form-of .ensures) ∙ c .before .before .before .enum-told3 .given .1) refl (c .before .before .before .before .before .after .ensures) (number-records _ _ _ (c .before .before .operand .ensures)) (c .after2 .ensures)
+  number-second c = second-fits _ _ _ _ (c .before .before .before .before .before .before .before .before .before .pre .1)
+      (sym (c .before .before .before .before .before .before .form-of .ensures) ∙ c .before .before .before .enum-told3 .given .1) refl
+      (c .before .before .before .before .before .after .ensures) (number-records _ _ _ (c .before .before .operand .ensures)) (c .after2 .ensures)
 
-  number-both : (c : number-at-lts.After-struct-told2 (number-at-claims t) (number-at-at t) number-at.Post) → Lies (c .before .before .before .before .before .operand .result .value) bounds × Lies (c .before .before .operand2 .result .value) bounds
-  number-both c = (number-small _ _ _ (number-first (c .before .before .before .before .before .before)) (c .before .before .before .before .before .operand .ensures), number-small _ _ _ (number-second (c .before .before .before)) (c .before .before .operand2 .ensures))
+  number-both : (c : number-at-lts.After-struct-told2 (number-at-claims t) (number-at-at t) number-at.Post) → Lies
+      (c .before .before .before .before .before .operand .result .value) bounds × Lies (c .before .before .operand2 .result .value) bounds
+  number-both c =
+      (number-small _ _ _ (number-first (c .before .before .before .before .before .before)) (c .before .before .before .before .before .operand .ensures), number-small _ _ _ (number-second (c .before .before .before)) (c .before .before .operand2 .ensures))
 
-  number-truth : (c : number-at-lts.After-enum-told4 (number-at-claims t) (number-at-at t) number-at.Post) → Fits (c .before .before .before .before .before .before .args .levels - 1) truthSort (c .before .before .after .result .now) (c .before .before .before .before .before .before .args .state)
+  number-truth : (c : number-at-lts.After-enum-told4 (number-at-claims t) (number-at-at t) number-at.Post) → Fits
+      (c .before .before .before .before .before .before .args .levels - 1) truthSort (c .before .before .after .result .now)
+      (c .before .before .before .before .before .before .args .state)
   unfolding signatureOf
-  number-truth c = one-fits _ _ _ _ (c .before .before .before .before .before .before .pre .1) (sym (c .before .before .before .form-of .ensures) ∙ c .enum-told4 .given .1) refl (c .before .before .after .ensures)
+  number-truth c = one-fits _ _ _ _ (c .before .before .before .before .before .before .pre .1)
+      (sym (c .before .before .before .form-of .ensures) ∙ c .enum-told4 .given .1) refl (c .before .before .after .ensures)
 
   -- ---- the operands of `truth_at`: of a negation, of a connective, of a comparison
-  negated-fits : (c : truth-at-lts.After-enum-told2 (truth-at-claims t) (truth-at-at t) truth-at.Post) → Fits (c .before .before .before .before .before .before .args .levels - 1) truthSort (c .before .before .after .result .now) (c .before .before .before .before .before .before .args .state)
+  negated-fits : (c : truth-at-lts.After-enum-told2 (truth-at-claims t) (truth-at-at t) truth-at.Post) → Fits
+      (c .before .before .before .before .before .before .args .levels - 1) truthSort (c .before .before .after .result .now)
+      (c .before .before .before .before .before .before .args .state)
   unfolding signatureOf
-  negated-fits c = one-fits _ _ _ _ (c .before .before .before .before .before .before .pre .1) (sym (c .before .before .before .form-of .ensures) ∙ c .enum-told2 .given .1) refl (c .before .before .after .ensures)
+  negated-fits c = one-fits _ _ _ _ (c .before .before .before .before .before .before .pre .1)
+      (sym (c .before .before .before .form-of .ensures) ∙ c .enum-told2 .given .1) refl (c .before .before .after .ensures)
 
-  truth-first : (c : truth-at-lts.After-enum-told3 (truth-at-claims t) (truth-at-at t) truth-at.Post) → Fits (c .before .before .before .before .before .before .args .levels - 1) truthSort (c .before .before .after .result .now) (c .before .before .before .before .before .before .args .state)
+  truth-first : (c : truth-at-lts.After-enum-told3 (truth-at-claims t) (truth-at-at t) truth-at.Post) → Fits
+      (c .before .before .before .before .before .before .args .levels - 1) truthSort (c .before .before .after .result .now)
+      (c .before .before .before .before .before .before .args .state)
   unfolding signatureOf
-  truth-first c = first-fits _ _ _ _ (c .before .before .before .before .before .before .pre .1) (sym (c .before .before .before .form-of .ensures) ∙ c .enum-told3 .given .1) refl (c .before .before .after .ensures)
+  truth-first c = first-fits _ _ _ _ (c .before .before .before .before .before .before .pre .1)
+      (sym (c .before .before .before .form-of .ensures) ∙ c .enum-told3 .given .1) refl (c .before .before .after .ensures)
 
-  truth-middle : (c : truth-at-lts.After-struct-known3 (truth-at-claims t) (truth-at-at t) truth-at.Post) → 8 * (1 + c .before .truth-at2 .result .records) ≤ length (c .before .before .before .before .before .before .before .before .args .part .now)
-  truth-middle c = operand-within _ _ _ _ (c .before .before .before .before .before .before .before .before .pre .1) _ (c .before .before .before .before .after .ensures) (truth-first (c .before .before)) (truth-records _ _ _ (c .before .truth-at2 .ensures))
+  truth-middle : (c : truth-at-lts.After-struct-known3 (truth-at-claims t) (truth-at-at t) truth-at.Post)
+      → 8 * (1 + c .before .truth-at2 .result .records) ≤ length (c .before .before .before .before .before .before .before .before .args .part .now)
+  truth-middle c = operand-within _ _ _ _ (c .before .before .before .before .before .before .before .before .pre .1)
+      _ (c .before .before .before .before .after .ensures) (truth-first (c .before .before)) (truth-records _ _ _ (c .before .truth-at2 .ensures))
 
-  truth-second : (c : truth-at-lts.After-after2 (truth-at-claims t) (truth-at-at t) truth-at.Post) → Fits (c .before .before .before .before .before .before .before .before .before .args .levels - 1) truthSort (c .after2 .result .now) (c .before .before .before .before .before .before .before .before .before .args .state)
+  truth-second : (c : truth-at-lts.After-after2 (truth-at-claims t) (truth-at-at t) truth-at.Post) → Fits
+      (c .before .before .before .before .before .before .before .before .before .args .levels - 1) truthSort (c .after2 .result .now)
+      (c .before .before .before .before .before .before .before .before .before .args .state)
   unfolding signatureOf
-  truth-second c = second-fits _ _ _ _ (c .before .before .before .before .before .before .before .before .before .pre .1) (sym (c .before .before .before .before .before .before .form-of .ensures) ∙ c .before .before .before .enum-told3 .given .1) refl (c .before .before .before .before .before .after .ensures) (truth-records _ _ _ (c .before .before .truth-at2 .ensures)) (c .after2 .ensures)
+  truth-second c = second-fits _ _ _ _ (c .before .before .before .before .before .before .before .before .before .pre .1)
+      (sym (c .before .before .before .before .before .before .form-of .ensures) ∙ c .before .before .before .enum-told3 .given .1) refl
+      (c .before .before .before .before .before .after .ensures) (truth-records _ _ _ (c .before .before .truth-at2 .ensures)) (c .after2 .ensures)
 
-  compared-first : (c : truth-at-lts.After-enum-told4 (truth-at-claims t) (truth-at-at t) truth-at.Post) → Fits (c .before .before .before .before .before .before .args .levels - 1) numberSort (c .before .before .after .result .now) (c .before .before .before .before .before .before .args .state)
+  compared-first : (c : truth-at-lts.After-enum-told4 (truth-at-claims t) (truth-at-at t) truth-at.Post) → Fits
+      (c .before .before .before .before .before .before .args .levels - 1) numberSort (c .before .before .after .result .now)
+      (c .before .before .before .before .before .before .args .state)
   unfolding signatureOf
-  compared-first c = first-fits _ _ _ _ (c .before .before .before .before .before .before .pre .1) (sym (c .before .before .before .form-of .ensures) ∙ c .enum-told4 .given .1) refl (c .before .before .after .ensures)
+  compared-first c = first-fits _ _ _ _ (c .before .before .before .before .before .before .pre .1)
+      (sym (c .before .before .before .form-of .ensures) ∙ c .enum-told4 .given .1) refl (c .before .before .after .ensures)
 
-  compared-middle : (c : truth-at-lts.After-struct-known5 (truth-at-claims t) (truth-at-at t) truth-at.Post) → 8 * (1 + c .before .operand .result .records) ≤ length (c .before .before .before .before .before .before .before .before .args .part .now)
-  compared-middle c = operand-within _ _ _ _ (c .before .before .before .before .before .before .before .before .pre .1) _ (c .before .before .before .before .after .ensures) (compared-first (c .before .before)) (number-records _ _ _ (c .before .operand .ensures))
+  compared-middle : (c : truth-at-lts.After-struct-known5 (truth-at-claims t) (truth-at-at t) truth-at.Post)
+      → 8 * (1 + c .before .operand .result .records) ≤ length (c .before .before .before .before .before .before .before .before .args .part .now)
+  compared-middle c = operand-within _ _ _ _ (c .before .before .before .before .before .before .before .before .pre .1)
+      _ (c .before .before .before .before .after .ensures) (compared-first (c .before .before)) (number-records _ _ _ (c .before .operand .ensures))
 
-  compared-second : (c : truth-at-lts.After-after3 (truth-at-claims t) (truth-at-at t) truth-at.Post) → Fits (c .before .before .before .before .before .before .before .before .before .args .levels - 1) numberSort (c .after3 .result .now) (c .before .before .before .before .before .before .before .before .before .args .state)
+  compared-second : (c : truth-at-lts.After-after3 (truth-at-claims t) (truth-at-at t) truth-at.Post) → Fits
+      (c .before .before .before .before .before .before .before .before .before .args .levels - 1) numberSort (c .after3 .result .now)
+      (c .before .before .before .before .before .before .before .before .before .args .state)
   unfolding signatureOf
-  compared-second c = second-fits _ _ _ _ (c .before .before .before .before .before .before .before .before .before .pre .1) (sym (c .before .before .before .before .before .before .form-of .ensures) ∙ c .before .before .before .enum-told4 .given .1) refl (c .before .before .before .before .before .after .ensures) (number-records _ _ _ (c .before .before .operand .ensures)) (c .after3 .ensures)
+  compared-second c = second-fits _ _ _ _ (c .before .before .before .before .before .before .before .before .before .pre .1)
+      (sym (c .before .before .before .before .before .before .form-of .ensures) ∙ c .before .before .before .enum-told4 .given .1) refl
+      (c .before .before .before .before .before .after .ensures) (number-records _ _ _ (c .before .before .operand .ensures)) (c .after3 .ensures)
 
-  compared-both : (c : truth-at-lts.After-struct-told2 (truth-at-claims t) (truth-at-at t) truth-at.Post) → Lies (c .before .before .before .before .before .operand .result .value) bounds × Lies (c .before .before .operand2 .result .value) bounds
-  compared-both c = (number-small _ _ _ (compared-first (c .before .before .before .before .before .before)) (c .before .before .before .before .before .operand .ensures), number-small _ _ _ (compared-second (c .before .before .before)) (c .before .before .operand2 .ensures))
+  compared-both : (c : truth-at-lts.After-struct-told2 (truth-at-claims t) (truth-at-at t) truth-at.Post) → Lies
+      (c .before .before .before .before .before .operand .result .value) bounds × Lies (c .before .before .operand2 .result .value) bounds
+  compared-both c =
+      (number-small _ _ _ (compared-first (c .before .before .before .before .before .before)) (c .before .before .before .before .before .operand .ensures), number-small _ _ _ (compared-second (c .before .before .before)) (c .before .before .operand2 .ensures))
 
   -- ---- the needs, in the code's order
   number-at-shared-slice-read-kind : number-at-lts.Need-shared-slice-read-kind (number-at-claims t) (number-at-at t) number-at.Post
@@ -152,13 +189,15 @@ module _ (t : ℕ) where
   number-at-enum-told-2 c = c .match .keys2
 
   number-at-variable-requires : number-at-lts.Need-variable-requires (number-at-claims t) (number-at-at t) number-at.Post
-  number-at-variable-requires c κs = (there _ _ _ _ (c .before .before .before .before .before .before .pre .1), fits-record _ _ _ _ (c .before .before .before .before .before .before .pre .1) .variable (sym (c .before .before .before .form-of .ensures) ∙ c .enum-told2 .given .1))
+  number-at-variable-requires c κs =
+      (there _ _ _ _ (c .before .before .before .before .before .before .pre .1), fits-record _ _ _ _ (c .before .before .before .before .before .before .pre .1) .variable (sym (c .before .before .before .form-of .ensures) ∙ c .enum-told2 .given .1))
 
   number-at-enum-told-3 : number-at-lts.Need-enum-told-3 (number-at-claims t) (number-at-at t) number-at.Post
   number-at-enum-told-3 c = c .match .keys3
 
   number-at-operand-requires : number-at-lts.Need-operand-requires (number-at-claims t) (number-at-at t) number-at.Post
-  number-at-operand-requires c κs = (let l = level _ _ _ _ (c .before .before .before .before .before .before .pre .1) in omega (arith, c .before .before .before .before .before .before .pre .0), number-first c)
+  number-at-operand-requires c κs =
+      (let l = level _ _ _ _ (c .before .before .before .before .before .before .pre .1) in omega (arith, c .before .before .before .before .before .before .pre .0), number-first c)
 
   number-at-add-middle : number-at-lts.Need-add-middle (number-at-claims t) (number-at-at t) number-at.Post
   number-at-add-middle c = omega (arith, number-middle c)
@@ -167,31 +206,37 @@ module _ (t : ℕ) where
   number-at-after-requires-2 c κs = number-middle c
 
   number-at-operand-requires-2 : number-at-lts.Need-operand-requires-2 (number-at-claims t) (number-at-at t) number-at.Post
-  number-at-operand-requires-2 c κs = (let l = level _ _ _ _ (c .before .before .before .before .before .before .before .before .before .pre .1) in omega (arith, c .before .before .before .before .before .before .before .before .before .pre .0), number-second c)
+  number-at-operand-requires-2 c κs =
+      (let l = level _ _ _ _ (c .before .before .before .before .before .before .before .before .before .pre .1) in omega (arith, c .before .before .before .before .before .before .before .before .before .pre .0), number-second c)
 
   number-at-combine-requires : number-at-lts.Need-combine-requires (number-at-claims t) (number-at-at t) number-at.Post
   number-at-combine-requires c κs = let h = number-both c in rw (toZ-ofZ (in-fits (h .0)), toZ-ofZ (in-fits (h .1))) h
 
   number-at-add-records : number-at-lts.Need-add-records (number-at-claims t) (number-at-at t) number-at.Post
-  number-at-add-records c = omega (arith, operands-within _ _ _ _ (c .before .before .before .before .before .before .before .before .before .before .before .before .before .before .pre .1) _ _ (number-middle (c .before .before .before .before .before .before)) (c .before .before .before .before .before .after2 .ensures) (number-second (c .before .before .before .before .before)) (number-records _ _ _ (c .before .before .before .before .operand2 .ensures)))
+  number-at-add-records c = omega
+      (arith, operands-within _ _ _ _ (c .before .before .before .before .before .before .before .before .before .before .before .before .before .before .pre .1) _ _ (number-middle (c .before .before .before .before .before .before)) (c .before .before .before .before .before .after2 .ensures) (number-second (c .before .before .before .before .before)) (number-records _ _ _ (c .before .before .before .before .operand2 .ensures)))
 
   number-at-enum-told-4 : number-at-lts.Need-enum-told-4 (number-at-claims t) (number-at-at t) number-at.Post
   number-at-enum-told-4 c = c .match .keys4
 
   number-at-truth-at-requires : number-at-lts.Need-truth-at-requires (number-at-claims t) (number-at-at t) number-at.Post
-  number-at-truth-at-requires c κs = (let l = level _ _ _ _ (c .before .before .before .before .before .before .pre .1) in omega (arith, c .before .before .before .before .before .before .pre .0), number-truth c)
+  number-at-truth-at-requires c κs =
+      (let l = level _ _ _ _ (c .before .before .before .before .before .before .pre .1) in omega (arith, c .before .before .before .before .before .before .pre .0), number-truth c)
 
   number-at-indicator-requires : number-at-lts.Need-indicator-requires (number-at-claims t) (number-at-at t) number-at.Post
   number-at-indicator-requires c κs = tt
 
   number-at-add-records-2 : number-at-lts.Need-add-records-2 (number-at-claims t) (number-at-at t) number-at.Post
-  number-at-add-records-2 c = omega (arith, operand-within _ _ _ _ (c .before .before .before .before .before .before .before .before .before .pre .1) _ (c .before .before .before .before .before .after .ensures) (number-truth (c .before .before .before)) (truth-records _ _ _ (c .before .before .truth-at .ensures)))
+  number-at-add-records-2 c = omega
+      (arith, operand-within _ _ _ _ (c .before .before .before .before .before .before .before .before .before .pre .1) _ (c .before .before .before .before .before .after .ensures) (number-truth (c .before .before .before)) (truth-records _ _ _ (c .before .before .truth-at .ensures)))
 
   number-at-returns : number-at-lts.Need-returns (number-at-claims t) (number-at-at t) number-at.Post
-  number-at-returns c = c .constant .ensures ∙ constant-is _ _ _ _ (c .before .before .before .before .before .before .before .pre .1) (sym (c .before .before .before .before .form-of .ensures) ∙ c .before .enum-told .given .1)
+  number-at-returns c = c .constant .ensures ∙ constant-is _ _ _ _ (c .before .before .before .before .before .before .before .pre .1)
+      (sym (c .before .before .before .before .form-of .ensures) ∙ c .before .enum-told .given .1)
 
   number-at-returns-2 : number-at-lts.Need-returns-2 (number-at-claims t) (number-at-at t) number-at.Post
-  number-at-returns-2 c = c .variable .ensures ∙ variable-is _ _ _ _ (c .before .before .before .before .before .before .before .pre .1) (sym (c .before .before .before .before .form-of .ensures) ∙ c .before .enum-told2 .given .1)
+  number-at-returns-2 c = c .variable .ensures ∙ variable-is _ _ _ _ (c .before .before .before .before .before .before .before .pre .1)
+      (sym (c .before .before .before .before .form-of .ensures) ∙ c .before .enum-told2 .given .1)
 
   number-at-returns-3 : number-at-lts.Need-returns-3 (number-at-claims t) (number-at-at t) number-at.Post
   number-at-returns-3 c = let h = number-both (c .before .before) in
@@ -200,10 +245,12 @@ module _ (t : ℕ) where
       (rw (toZ-ofZ (in-fits (h .0)), toZ-ofZ (in-fits (h .1))) at (c .before .combine .ensures)))
 
   number-at-returns-4 : number-at-lts.Need-returns-4 (number-at-claims t) (number-at-at t) number-at.Post
-  number-at-returns-4 c = rw (back w64 (c .before .indicator .result) (c .before .indicator .ok)) (indicator-is _ _ _ _ (c .before .before .before .before .before .before .before .before .before .pre .1) (c .before .before .before .before .before .after .ensures) (sym (c .before .before .before .before .before .before .form-of .ensures) ∙ c .before .before .before .enum-told4 .given .1) (c .before .before .truth-at .ensures) (c .before .indicator .ensures))
+  number-at-returns-4 c = rw (back w64 (c .before .indicator .result) (c .before .indicator .ok))
+      (indicator-is _ _ _ _ (c .before .before .before .before .before .before .before .before .before .pre .1) (c .before .before .before .before .before .after .ensures) (sym (c .before .before .before .before .before .before .form-of .ensures) ∙ c .before .before .before .enum-told4 .given .1) (c .before .before .truth-at .ensures) (c .before .indicator .ensures))
 
   number-at-returns-5 : number-at-lts.Need-returns-5 (number-at-claims t) (number-at-at t) number-at.Post
-  number-at-returns-5 c = absurd (number-arms _ _ _ (c .before .before .form-of .ensures) (c .before .before .before .before .before .pre .1) (c .match .keys5))
+  number-at-returns-5 c = absurd
+      (number-arms _ _ _ (c .before .before .form-of .ensures) (c .before .before .before .before .before .pre .1) (c .match .keys5))
 
   -- `operand`
   operand-shared-slice-read-kind : operand-lts.Need-shared-slice-read-kind (operand-claims t) (operand-at t) operand.Post
@@ -222,16 +269,19 @@ module _ (t : ℕ) where
   operand-enum-told-2 c = c .match .keys2
 
   operand-variable-requires : operand-lts.Need-variable-requires (operand-claims t) (operand-at t) operand.Post
-  operand-variable-requires c κs = (there _ _ _ _ (c .before .before .before .before .before .pre .1), fits-record _ _ _ _ (c .before .before .before .before .before .pre .1) .variable (sym (c .before .before .form-of .ensures) ∙ c .enum-told2 .given .1))
+  operand-variable-requires c κs =
+      (there _ _ _ _ (c .before .before .before .before .before .pre .1), fits-record _ _ _ _ (c .before .before .before .before .before .pre .1) .variable (sym (c .before .before .form-of .ensures) ∙ c .enum-told2 .given .1))
 
   operand-number-at-requires : operand-lts.Need-number-at-requires (operand-claims t) (operand-at t) operand.Post
   operand-number-at-requires c κs = (omega (arith, c .before .before .before .before .pre .0), c .before .before .before .before .pre .1)
 
   operand-returns : operand-lts.Need-returns (operand-claims t) (operand-at t) operand.Post
-  operand-returns c = c .constant .ensures ∙ constant-is _ _ _ _ (c .before .before .before .before .before .before .pre .1) (sym (c .before .before .before .form-of .ensures) ∙ c .before .enum-told .given .1)
+  operand-returns c = c .constant .ensures ∙ constant-is _ _ _ _ (c .before .before .before .before .before .before .pre .1)
+      (sym (c .before .before .before .form-of .ensures) ∙ c .before .enum-told .given .1)
 
   operand-returns-2 : operand-lts.Need-returns-2 (operand-claims t) (operand-at t) operand.Post
-  operand-returns-2 c = c .variable .ensures ∙ variable-is _ _ _ _ (c .before .before .before .before .before .before .pre .1) (sym (c .before .before .before .form-of .ensures) ∙ c .before .enum-told2 .given .1)
+  operand-returns-2 c = c .variable .ensures ∙ variable-is _ _ _ _ (c .before .before .before .before .before .before .pre .1)
+      (sym (c .before .before .before .form-of .ensures) ∙ c .before .enum-told2 .given .1)
 
   operand-returns-3 : operand-lts.Need-returns-3 (operand-claims t) (operand-at t) operand.Post
   operand-returns-3 c = c .number-at .ensures
@@ -256,16 +306,19 @@ module _ (t : ℕ) where
   truth-at-enum-told-2 c = c .match .keys2
 
   truth-at-truth-at-requires : truth-at-lts.Need-truth-at-requires (truth-at-claims t) (truth-at-at t) truth-at.Post
-  truth-at-truth-at-requires c κs = (let l = level _ _ _ _ (c .before .before .before .before .before .before .pre .1) in omega (arith, c .before .before .before .before .before .before .pre .0), negated-fits c)
+  truth-at-truth-at-requires c κs =
+      (let l = level _ _ _ _ (c .before .before .before .before .before .before .pre .1) in omega (arith, c .before .before .before .before .before .before .pre .0), negated-fits c)
 
   truth-at-add-records : truth-at-lts.Need-add-records (truth-at-claims t) (truth-at-at t) truth-at.Post
-  truth-at-add-records c = omega (arith, operand-within _ _ _ _ (c .before .before .before .before .before .before .before .before .pre .1) _ (c .before .before .before .before .after .ensures) (negated-fits (c .before .before)) (truth-records _ _ _ (c .before .truth-at .ensures)))
+  truth-at-add-records c = omega
+      (arith, operand-within _ _ _ _ (c .before .before .before .before .before .before .before .before .pre .1) _ (c .before .before .before .before .after .ensures) (negated-fits (c .before .before)) (truth-records _ _ _ (c .before .truth-at .ensures)))
 
   truth-at-enum-told-3 : truth-at-lts.Need-enum-told-3 (truth-at-claims t) (truth-at-at t) truth-at.Post
   truth-at-enum-told-3 c = c .match .keys3
 
   truth-at-truth-at-requires-2 : truth-at-lts.Need-truth-at-requires-2 (truth-at-claims t) (truth-at-at t) truth-at.Post
-  truth-at-truth-at-requires-2 c κs = (let l = level _ _ _ _ (c .before .before .before .before .before .before .pre .1) in omega (arith, c .before .before .before .before .before .before .pre .0), truth-first c)
+  truth-at-truth-at-requires-2 c κs =
+      (let l = level _ _ _ _ (c .before .before .before .before .before .before .pre .1) in omega (arith, c .before .before .before .before .before .before .pre .0), truth-first c)
 
   truth-at-add-middle : truth-at-lts.Need-add-middle (truth-at-claims t) (truth-at-at t) truth-at.Post
   truth-at-add-middle c = omega (arith, truth-middle c)
@@ -274,19 +327,22 @@ module _ (t : ℕ) where
   truth-at-after-requires-2 c κs = truth-middle c
 
   truth-at-truth-at-requires-3 : truth-at-lts.Need-truth-at-requires-3 (truth-at-claims t) (truth-at-at t) truth-at.Post
-  truth-at-truth-at-requires-3 c κs = (let l = level _ _ _ _ (c .before .before .before .before .before .before .before .before .before .pre .1) in omega (arith, c .before .before .before .before .before .before .before .before .before .pre .0), truth-second c)
+  truth-at-truth-at-requires-3 c κs =
+      (let l = level _ _ _ _ (c .before .before .before .before .before .before .before .before .before .pre .1) in omega (arith, c .before .before .before .before .before .before .before .before .before .pre .0), truth-second c)
 
   truth-at-connect-requires : truth-at-lts.Need-connect-requires (truth-at-claims t) (truth-at-at t) truth-at.Post
   truth-at-connect-requires c κs = tt
 
   truth-at-add-records-2 : truth-at-lts.Need-add-records-2 (truth-at-claims t) (truth-at-at t) truth-at.Post
-  truth-at-add-records-2 c = omega (arith, operands-within _ _ _ _ (c .before .before .before .before .before .before .before .before .before .before .before .before .pre .1) _ _ (truth-middle (c .before .before .before .before)) (c .before .before .before .after2 .ensures) (truth-second (c .before .before .before)) (truth-records _ _ _ (c .before .before .truth-at3 .ensures)))
+  truth-at-add-records-2 c = omega
+      (arith, operands-within _ _ _ _ (c .before .before .before .before .before .before .before .before .before .before .before .before .pre .1) _ _ (truth-middle (c .before .before .before .before)) (c .before .before .before .after2 .ensures) (truth-second (c .before .before .before)) (truth-records _ _ _ (c .before .before .truth-at3 .ensures)))
 
   truth-at-enum-told-4 : truth-at-lts.Need-enum-told-4 (truth-at-claims t) (truth-at-at t) truth-at.Post
   truth-at-enum-told-4 c = c .match .keys4
 
   truth-at-operand-requires : truth-at-lts.Need-operand-requires (truth-at-claims t) (truth-at-at t) truth-at.Post
-  truth-at-operand-requires c κs = (let l = level _ _ _ _ (c .before .before .before .before .before .before .pre .1) in omega (arith, c .before .before .before .before .before .before .pre .0), compared-first c)
+  truth-at-operand-requires c κs =
+      (let l = level _ _ _ _ (c .before .before .before .before .before .before .pre .1) in omega (arith, c .before .before .before .before .before .before .pre .0), compared-first c)
 
   truth-at-add-middle-2 : truth-at-lts.Need-add-middle-2 (truth-at-claims t) (truth-at-at t) truth-at.Post
   truth-at-add-middle-2 c = omega (arith, compared-middle c)
@@ -295,30 +351,48 @@ module _ (t : ℕ) where
   truth-at-after-requires-3 c κs = compared-middle c
 
   truth-at-operand-requires-2 : truth-at-lts.Need-operand-requires-2 (truth-at-claims t) (truth-at-at t) truth-at.Post
-  truth-at-operand-requires-2 c κs = (let l = level _ _ _ _ (c .before .before .before .before .before .before .before .before .before .pre .1) in omega (arith, c .before .before .before .before .before .before .before .before .before .pre .0), compared-second c)
+  truth-at-operand-requires-2 c κs =
+      (let l = level _ _ _ _ (c .before .before .before .before .before .before .before .before .before .pre .1) in omega (arith, c .before .before .before .before .before .before .before .before .before .pre .0), compared-second c)
 
   truth-at-compare-requires : truth-at-lts.Need-compare-requires (truth-at-claims t) (truth-at-at t) truth-at.Post
   truth-at-compare-requires c κs = tt
 
   truth-at-add-records-3 : truth-at-lts.Need-add-records-3 (truth-at-claims t) (truth-at-at t) truth-at.Post
-  truth-at-add-records-3 c = omega (arith, operands-within _ _ _ _ (c .before .before .before .before .before .before .before .before .before .before .before .before .before .before .pre .1) _ _ (compared-middle (c .before .before .before .before .before .before)) (c .before .before .before .before .before .after3 .ensures) (compared-second (c .before .before .before .before .before)) (number-records _ _ _ (c .before .before .before .before .operand2 .ensures)))
+  truth-at-add-records-3 c = omega
+      (arith, operands-within _ _ _ _ (c .before .before .before .before .before .before .before .before .before .before .before .before .before .before .pre .1) _ _ (compared-middle (c .before .before .before .before .before .before)) (c .before .before .before .before .before .after3 .ensures) (compared-second (c .before .before .before .before .before)) (number-records _ _ _ (c .before .before .before .before .operand2 .ensures)))
 
   truth-at-returns : truth-at-lts.Need-returns (truth-at-claims t) (truth-at-at t) truth-at.Post
-  truth-at-returns c = literal-is _ _ _ _ (c .before .before .before .before .before .before .pre .1) (sym (c .before .before .before .form-of .ensures) ∙ c .enum-told .given .1)
+  truth-at-returns c = literal-is _ _ _ _ (c .before .before .before .before .before .before .pre .1)
+      (sym (c .before .before .before .form-of .ensures) ∙ c .enum-told .given .1)
 
   truth-at-returns-2 : truth-at-lts.Need-returns-2 (truth-at-claims t) (truth-at-at t) truth-at.Post
-  truth-at-returns-2 c = negation-is _ _ _ _ (c .before .before .before .before .before .before .before .before .before .pre .1) (c .before .before .before .before .before .after .ensures) (sym (c .before .before .before .before .before .before .form-of .ensures) ∙ c .before .before .before .enum-told2 .given .1) (c .before .before .truth-at .ensures)
+  truth-at-returns-2 c = negation-is _ _ _ _ (c .before .before .before .before .before .before .before .before .before .pre .1)
+      (c .before .before .before .before .before .after .ensures)
+      (sym (c .before .before .before .before .before .before .form-of .ensures) ∙ c .before .before .before .enum-told2 .given .1)
+      (c .before .before .truth-at .ensures)
 
   truth-at-returns-3 : truth-at-lts.Need-returns-3 (truth-at-claims t) (truth-at-at t) truth-at.Post
-  truth-at-returns-3 c = connective-is _ _ _ _ (c .before .before .before .before .before .before .before .before .before .before .before .before .pre .1) (c .before .before .before .before .before .before .before .before .after .ensures) (c .before .before .before .before .before .truth-at2 .ensures) (c .before .before .before .after2 .ensures) (c .before .before .truth-at3 .ensures) (sym (c .before .before .before .before .before .before .before .before .before .form-of .ensures) ∙ c .before .before .before .before .before .before .enum-told3 .given .1) (c .before .connect .ensures)
+  truth-at-returns-3 c = connective-is
+      _ _ _ _ (c .before .before .before .before .before .before .before .before .before .before .before .before .pre .1)
+      (c .before .before .before .before .before .before .before .before .after .ensures)
+      (c .before .before .before .before .before .truth-at2 .ensures) (c .before .before .before .after2 .ensures)
+      (c .before .before .truth-at3 .ensures)
+      (sym (c .before .before .before .before .before .before .before .before .before .form-of .ensures) ∙ c .before .before .before .before .before .before .enum-told3 .given .1)
+      (c .before .connect .ensures)
 
   truth-at-returns-4 : truth-at-lts.Need-returns-4 (truth-at-claims t) (truth-at-at t) truth-at.Post
   truth-at-returns-4 c = let h = compared-both (c .before .before) in
-      comparison-is _ _ _ _ (c .before .before .before .before .before .before .before .before .before .before .before .before .before .before .pre .1) (c .before .before .before .before .before .before .before .before .before .before .after .ensures) (c .before .before .before .before .before .before .before .operand .ensures) (c .before .before .before .before .before .after3 .ensures) (c .before .before .before .before .operand2 .ensures) (sym (c .before .before .before .before .before .before .before .before .before .before .before .form-of .ensures) ∙ c .before .before .before .before .before .before .before .before .enum-told4 .given .1)
+      comparison-is
+      _ _ _ _ (c .before .before .before .before .before .before .before .before .before .before .before .before .before .before .pre .1)
+      (c .before .before .before .before .before .before .before .before .before .before .after .ensures)
+      (c .before .before .before .before .before .before .before .operand .ensures) (c .before .before .before .before .before .after3 .ensures)
+      (c .before .before .before .before .operand2 .ensures)
+      (sym (c .before .before .before .before .before .before .before .before .before .before .before .form-of .ensures) ∙ c .before .before .before .before .before .before .before .before .enum-told4 .given .1)
       (rw (toZ-ofZ (in-fits (h .0)), toZ-ofZ (in-fits (h .1))) at (c .before .compare .ensures))
 
   truth-at-returns-5 : truth-at-lts.Need-returns-5 (truth-at-claims t) (truth-at-at t) truth-at.Post
-  truth-at-returns-5 c = absurd (truth-arms _ _ _ (c .before .before .form-of .ensures) (c .before .before .before .before .before .pre .1) (c .match .keys5))
+  truth-at-returns-5 c = absurd
+      (truth-arms _ _ _ (c .before .before .form-of .ensures) (c .before .before .before .before .before .pre .1) (c .match .keys5))
 
 pub +number-at+operand+truth-at-spec : {M : Type 1} → statement M
 +number-at+operand+truth-at-spec = close μ-number-at μ-operand μ-truth-at

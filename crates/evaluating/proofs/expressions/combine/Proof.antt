@@ -25,7 +25,8 @@ returns-2 c = let p = c .before .pre in rw (op-back _-ℤ_ difference-fits (p .0
 
 returns-3 : tie.Need-returns-3
 unfolding combine
-returns-3 c = let p = c .before .pre in rw (op-back _*ℤ_ product-fits (p .0) (p .1), ne-eqb (c .before .args .kind) 0x12 (c .match .rest .0 .1), ne-eqb (c .before .args .kind) 0x13 (c .match .rest .1))
+returns-3 c = let p = c .before .pre in rw
+    (op-back _*ℤ_ product-fits (p .0) (p .1), ne-eqb (c .before .args .kind) 0x12 (c .match .rest .0 .1), ne-eqb (c .before .args .kind) 0x13 (c .match .rest .1))
 
 pub combine-spec : {M : Type 1} → statement M
 combine-spec = tie.close (tie.spec add-result sub-result mul-result returns returns-2 returns-3)

@@ -16,7 +16,8 @@ returns-2 c = let s = c .before in rw (toZ-ofZ (s .fits .x), toZ-ofZ (s .fits .y
 
 returns-3 : tie.Need-returns-3
 unfolding compareOf
-returns-3 c = let s = c .before in rw (toZ-ofZ (s .fits .x), toZ-ofZ (s .fits .y), ne-eqb (s .args .kind) 0x27 (c .match .rest .0 .1), ne-eqb (s .args .kind) 0x28 (c .match .rest .1))
+returns-3 c = let s = c .before in rw
+    (toZ-ofZ (s .fits .x), toZ-ofZ (s .fits .y), ne-eqb (s .args .kind) 0x27 (c .match .rest .0 .1), ne-eqb (s .args .kind) 0x28 (c .match .rest .1))
 
 pub compare-spec : {M : Type 1} → statement M
 compare-spec = tie.close (tie.spec returns returns-2 returns-3)

@@ -20,7 +20,8 @@ widen-requires c κs = search needs
 
 returns : tie.Need-returns
 unfolding single
-returns c = rw (back w64 (c .widen .result) (c .widen .ok), c .widen .ensures, back w16 (c .before .signed16 .result) (c .before .signed16 .ok), c .before .signed16 .ensures)
+returns c = rw
+    (back w64 (c .widen .result) (c .widen .ok), c .widen .ensures, back w16 (c .before .signed16 .result) (c .before .signed16 .ok), c .before .signed16 .ensures)
 
 pub constant-spec : {M : Type 1} → statement M
 constant-spec =

@@ -18,7 +18,8 @@ between-requires c κs = search needs
 
 returns : tie.Need-returns
 unfolding inRangeOf
-returns c = c .between .ensures ∙ rw (back w64 (c .before .before .element .result) (c .before .before .element .ok), back w64 (c .before .element2 .result) (c .before .element2 .ok), back w64 (c .before .before .before .args .x) (c .before .before .before .fits .x .sfits), c .before .before .element .ensures, c .before .element2 .ensures)
+returns c = c .between .ensures ∙ rw
+    (back w64 (c .before .before .element .result) (c .before .before .element .ok), back w64 (c .before .element2 .result) (c .before .element2 .ok), back w64 (c .before .before .before .args .x) (c .before .before .before .fits .x .sfits), c .before .before .element .ensures, c .before .element2 .ensures)
 
 pub in-range-spec : {M : Type 1} → statement M
 in-range-spec = tie.close (tie.spec element-requires element-requires-2 between-requires returns)

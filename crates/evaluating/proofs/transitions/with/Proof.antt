@@ -22,7 +22,9 @@ array-copy-out-h : tie.Need-array-copy-out-h
 array-copy-out-h c = search needs
 
 assign-requires : tie.Need-assign-requires
-assign-requires c κs = let a = c .before .before .args in rw (back w16 (getD (a .t1) (a .i) (pos 0)) (c .before .l .given), back w16 (getD (a .t2) (a .i) (pos 0)) (c .h .given), toZ-ofZ (c .before .before .fits .x)) (c .before .before .pre .0, in-range-ends _ _ _ _ (c .before .before .pre .1))
+assign-requires c κs = let a = c .before .before .args in rw
+    (back w16 (getD (a .t1) (a .i) (pos 0)) (c .before .l .given), back w16 (getD (a .t2) (a .i) (pos 0)) (c .h .given), toZ-ofZ (c .before .before .fits .x))
+    (c .before .before .pre .0, in-range-ends _ _ _ _ (c .before .before .pre .1))
 
 returns : tie.Need-returns
 returns c = rw (toZ-ofZ (c .before .before .before .fits .x)) at (c .assign .ensures)

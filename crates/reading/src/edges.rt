@@ -128,7 +128,7 @@ pub(crate) fn rules(file: &[u8], outline: Outline) -> Walked
 }
 
 // Whether the edge at `at` is double and goes from the node.
-fn double_from(file: &[u8], at: usize, node: usize) -> bool
+pub fn double_from(file: &[u8], at: usize, node: usize) -> bool
     requires { ⌜ 8 * at + 8 ≤ length (now file) ⌝ }
     ensures { λ r. ⌜ r ≡ doubleFrom (now (file .entry)) node at ⌝ }
 {

@@ -1,0 +1,229 @@
+-- The marked examples of document 01, A to J, from the bytes of the file to the bytes of the report: one table, which antt computes, and one theorem
+-- over its rows, with files that break each kind of condition or are one of its traps. Then a table of lists of conditions and one of single tests.
+-- Assumes nothing.
+use mathlib.Core.Path.{_≡_, refl}
+use mathlib.Core.List.{List, [], _∷_, _++_, map, flatten, List·Memᴰ}
+use Prim.Native.Nat.{ℕ}
+use lib.ListN.{length, take, drop, set, replicate}
+use Rattle.integers.specs.Bytes
+use Rattle.integers.specs.Interval as Ends
+use Rattle.integers.specs.Radix
+use Rattle.integers.specs.Tests
+use Rattle.parsing.specs.Record
+use Rattle.parsing.specs.Kind
+use Rattle.parsing.specs.Walk
+use Rattle.parsing.specs.Section
+use Rattle.parsing.specs.Place
+use Rattle.parsing.specs.Outline
+use Rattle.parsing.specs.Search
+use Rattle.reading.specs.declared.Reading.{Reading}
+use Rattle.reading.specs.States
+use Rattle.reading.specs.Interval
+use Rattle.reading.specs.Edge
+use Rattle.reading.specs.Read
+use Rattle.reading.specs.Read.{readOf}
+use Rattle.reading.proofs.Files.{agree, bytes, range, single, constant, variable, plain, A, B, C, D, E, F, G, H, I, J}
+use Rattle.evaluating.specs.Expression
+use Rattle.evaluating.specs.State
+use Rattle.evaluating.specs.Number
+use Rattle.evaluating.specs.Transition
+use Rattle.judging.specs.Search as First
+use Rattle.judging.specs.Diagram
+use Rattle.judging.specs.Condition
+use Rattle.judging.specs.Condition.{conditionsOf}
+use Rattle.judging.specs.Holding
+use Rattle.judging.specs.Verdict
+use Rattle.judging.specs.Verdict.{checkOf, singleOf}
+use Rattle.judging.specs.Report
+use Rattle.judging.specs.Report.{reportOf}
+use Rattle.judging.specs.declared.conditions.Condition.{Condition}
+use Rattle.judging.specs.declared.conditions.Condition.the-variants.{Start, Entry, Cover, Range, Step, Enabling}
+use Rattle.judging.specs.declared.verdicts.Single.{Single}
+use Rattle.judging.proofs.Counter.{Computed}
+
+-- ---- reports
+-- a buffer before the check
+abbrev before : List ℕ
+before = replicate 34 170
+
+-- the buffer after the check of a file
+abbrev checked : List (List ℕ) → List ℕ
+checked file = reportOf (checkOf (flatten file) (length before)) before
+
+-- a file, and its report's first sixteen bytes, as two numbers; zeros follow, and the buffer's last two bytes as they were
+abbrev Row : Type 0
+Row = List (List ℕ) × ℕ × ℕ
+
+abbrev reported : Row → List ℕ
+reported (file, named, values) = bytes named ++ bytes values ++ replicate 16 0 ++ replicate 2 170
+
+abbrev marked : List Row
+marked =
+    (A, 0x1100000003000000, 0x0100000000000000) ∷
+    (B, 0x00ffff0004000000, 0) ∷
+    (C, 0x1000000002000000, 0x0200000000000000) ∷
+    (D, 0x00ffff0008000000, 0) ∷
+    (E, 0x1102000006000000, 0) ∷
+    (F, 0x09ffff001e000000, 0) ∷
+    (G, 0x0affff0002000000, 0) ∷
+    (H, 0x00ffff0008000000, 0) ∷
+    (I, 0x09ffff0028000000, 0) ∷
+    (J, 0x00ffff0004000000, 0) ∷
+    -- "no bytes, 3 at 0; 7 bytes, 2"
+    ([], 0x03ffff0000000000, 0) ∷
+    (take 7 (range 0 2) ∷ [], 0x02ffff0000000000, 0) ∷
+    []
+
+abbrev broken : List Row
+broken =
+    -- a starting state in no node (13), p in no node (14), a node without its q (15), a node whose double transition is disabled (18)
+    (set A 4 (constant 2), 0x0dffff0000000000, 0x0200000000000000) ∷
+    (set H 37 (constant 1), 0x0effff0000000000, 0) ∷
+    (set H 25 (constant 1), 0x0f02ff0003000000, 0) ∷
+    (set (set (set D 23 (plain 0x29)) 24 (constant 1)) 25 (variable 0), 0x1201000004000000, 0x0200000000000000) ∷
+    -- a negative value
+    (set (set (set A 0 (range 0xffff 0)) 4 (constant 0xffff)) 20 (constant 0xfffe), 0x0dffff0000000000, 0xffff000000000000) ∷
+    -- a transition that has no edge must keep the node; with an edge back to it, so it does in B
+    (B ++ (single 0 0 0 ∷ []), 0x00ffff0004000000, 0) ∷
+    -- after a double step the source node is not enough: E, its node 2 "v at most 1"
+    (set (set E 27 (plain 0x29)) 29 (constant 1), 0x1102000006000000, 0) ∷
+    -- a broken condition counts at states that no run reaches: B, its guard "v = 2"
+    (set B 6 (plain 0x27), 0x1000000002000000, 0x0200000000000000) ∷
+    []
+
+abbrev table : List Row
+table = marked ++ broken
+
+-- ---- lists of conditions
+abbrev listed : List ℕ → Reading → List Condition
+listed file (Reading.Readable o) = conditionsOf file o
+listed file (Reading.Refused number place) = []
+
+abbrev Listing : Type 0
+Listing = List (List ℕ) × List Condition
+
+abbrev lists : List Listing
+lists =
+    (A, Start ∷ Cover 0 ∷ Range 0 0 ∷ Step 0 0 ∷ []) ∷
+    (H, Entry ∷ Cover 0 ∷ Cover 1 ∷ Cover 2 ∷ Range 1 0 ∷ Step 1 0 ∷ Range 2 0 ∷ Step 2 0 ∷ []) ∷
+    (D, Entry ∷ Cover 0 ∷ Range 1 0 ∷ Step 1 0 ∷ Enabling 1 0 ∷ Range 2 0 ∷ Step 2 0 ∷ Enabling 2 0 ∷ []) ∷
+    -- D with its step twice: the double transition is the first of two
+    (
+      take 13 D ++ drop 5 D,
+      Entry ∷ Cover 0 ∷ Range 1 0 ∷ Step 1 0 ∷ Enabling 1 0 ∷ Range 1 1 ∷ Step 1 1 ∷
+          Range 2 0 ∷ Step 2 0 ∷ Enabling 2 0 ∷ Range 2 1 ∷ Step 2 1 ∷ [],
+    ) ∷
+    []
+
+abbrev listedBy : List (List ℕ) → List Condition
+listedBy file = listed (flatten file) (readOf (flatten file))
+
+-- ---- single tests: a file, a condition's number and a state's
+abbrev Question : Type 0
+Question = List (List ℕ) × ℕ × ℕ
+
+abbrev answered : Question → Single
+answered (file, condition, state) = singleOf (flatten file) condition state
+
+abbrev singles : List (Question × Single)
+singles =
+    ((A, 3, 0), Single.Holds) ∷
+    ((A, 3, 1), Single.Fails) ∷
+    ((A, 3, 2), Single.Holds) ∷
+    ((E, 6, 0), Single.Fails) ∷
+    -- a condition number too large is 11, a state number 12, both 11; a file that is not readable comes first
+    ((A, 4, 0), Single.Refused 11 0) ∷
+    ((A, 3, 3), Single.Refused 12 0) ∷
+    ((A, 4, 3), Single.Refused 11 0) ∷
+    ((F, 99, 99), Single.Refused 9 30) ∷
+    []
+
+-- ---- the columns of each table, computed
+columns : (map (λ (row : Row). checked (row .0)) table ≡ map reported table)
+    × (map (λ (row : Listing). listedBy (row .0)) lists ≡ map (λ (row : Listing). row .1) lists)
+    × (map (λ (row : Question × Single). answered (row .0)) singles ≡ map (λ (row : Question × Single). row .1) singles)
+    × Computed
+unfolding flatten Bytes.signed16 Bytes.lowByte Bytes.highByte Ends.minZ Ends.maxZ Ends.around Ends.overEnds Ends.inBounds
+    Radix.at Radix.offsetOf Tests.eqZ
+    Record.kindIs Record.zerosOf Record.sameBytes Kind.within Kind.formOf Kind.signatureOf
+    Walk.expressionFields Walk.inSequence Walk.recordThen Walk.walkOf Walk.spans Walk.span
+    Section.variableFields Section.transitionFields Section.assignmentFields Section.propertyFields Section.edgeFields Section.itemsOf
+    Section.variablesOf Section.assignmentsOf Section.transitionOf Section.transitionsOf Section.expressionsOf Section.phasesOr
+    Section.nodesOf Section.repeatedOf Section.edgesOf Place.tabulate
+    Outline.edgesParsed Outline.nodesParsed Outline.propertyParsed Outline.transitionsParsed Outline.startParsed Outline.parsedOf
+    Search.any Search.refuseFirst States.sizeOf States.statesOf
+    Interval.leafOf Interval.combine Interval.joinOf Interval.ownOf Interval.byOperands Interval.analysisOf Interval.analysedFrom Interval.intervalsOf
+    Edge.descending Edge.transitionAt Edge.justOf Edge.conflictOf Edge.chainRuleOf Edge.ruleOf Edge.rulesOf
+    Edge.doubleFrom Edge.doubledOf Edge.doublesOf
+    Read.stagesRead Read.parsedRead Read.readOf
+    Expression.first Expression.second Expression.indicatorOf Expression.connectOf Expression.compareOf
+    Expression.numberBy Expression.truthBy Expression.number Expression.truth Expression.holdsOf
+    State.endsOf Number.sizeOf Number.countOf Number.stateOf
+    Transition.behind Transition.assignmentAt Transition.assignmentsFrom Transition.inRangeOf Transition.allInRange Transition.assigned
+    Transition.guardOf Transition.assignmentsOf Transition.enabledOf Transition.successorOf
+    First.firstFrom First.first
+    Diagram.startHolds Diagram.nodeAt Diagram.nodeHolds Diagram.claimedAt Diagram.pHolds Diagram.qAt Diagram.qHolds Diagram.carries Diagram.isDouble
+    Condition.each Condition.movesOf Condition.conditionsFrom Condition.conditionsOf Condition.totalOf Condition.conditionAt
+    Condition.refusalNumber Condition.nodeNumber Condition.transitionNumber
+    Holding.implies Holding.guardHolds Holding.valuesFit Holding.isEnabled Holding.nextState
+    Holding.someNode Holding.someTarget Holding.conditionHolds
+    Verdict.statesOf Verdict.stateAt Verdict.unnamedOf Verdict.namedOf Verdict.breakingOf Verdict.isTrue Verdict.brokenOf Verdict.judgedOf
+    Verdict.verdictBy Verdict.checkOf Verdict.testedOf Verdict.singleBy Verdict.singleOf
+    Report.valueBytes Report.reportBytes Report.reportOf
+columns = (
+  refl,
+  refl,
+  refl,
+  record {
+    B-counts = record {
+      readable = refl;
+      accepted = refl;
+      transitions = refl;
+      states = (refl, refl, refl, refl);
+      zero-on = (refl, refl);
+      one-on = (refl, refl);
+      two-off = refl;
+    };
+    B-starts = refl;
+    D-counts = record {
+      readable = refl;
+      accepted = refl;
+      transitions = refl;
+      states = (refl, refl, refl, refl);
+      zero-on = (refl, refl);
+      one-on = (refl, refl);
+      two-off = refl;
+    };
+    D-premise = refl;
+    D-just = refl;
+    D-before₀ = refl;
+    D-before₁ = refl;
+    D-after = refl;
+    H-counts = record {
+      readable = refl;
+      accepted = refl;
+      transitions = refl;
+      states = (refl, refl, refl, refl);
+      zero-on = (refl, refl);
+      one-on = (refl, refl);
+      two-off = refl;
+    };
+    H-premise = refl;
+    H-before₀ = refl;
+    H-before₁ = refl;
+  },
+)
+
+-- ---- the theorems
+pub examples : (row : Row) → List·Memᴰ row table → checked (row .0) ≡ reported row
+examples = agree (λ row. checked (row .0)) reported (columns .0)
+
+pub lists-hold : (row : Listing) → List·Memᴰ row lists → listedBy (row .0) ≡ row .1
+lists-hold = agree (λ row. listedBy (row .0)) (λ row. row .1) (columns .1)
+
+pub singles-hold : (row : Question × Single) → List·Memᴰ row singles → answered (row .0) ≡ row .1
+singles-hold = agree (λ row. answered (row .0)) (λ row. row .1) (columns .2)
+
+-- what proofs/Witness.antt needs of B, D and H
+pub computed : Computed
+computed = columns .3

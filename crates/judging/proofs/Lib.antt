@@ -1,0 +1,5 @@
+pub mod Laws
+mod Steps
+mod Counter
+mod Examples
+mod Witness

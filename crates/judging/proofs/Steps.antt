@@ -1,0 +1,5 @@
+-- What the proofs of the code's loops share.
+pub mod Condition
+pub mod Testing
+pub mod Report
+pub mod Verdict

@@ -1,0 +1,42 @@
+-- `judging::check` meets its contract: a report that is too short is left as it is; the verdict is written to any other. An acceptance is sound.
+-- Assumes nothing.
+use mathlib.Core.Path.{sym, _∙_}
+use Rattle.judging.proofs.Steps.Report.{report-short}
+use Rattle.judging.proofs.Steps.Verdict.{check-short, check-long, check-claims}
+use borrow.Author.Needs.{needs}
+use Rattle.judging.proofs.check.Statement.{statement}
+use Rattle.judging.proofs.check.Tie as tie
+
+unnamed-requires : tie.Need-unnamed-requires
+unnamed-requires c κs = search needs
+
+returns : tie.Need-returns
+returns c =
+    let e = c .unnamed .ensures ∙ sym (check-short _ _ (c .before .if1 .taken)) in
+    (e, (report-short _ _ (c .before .if1 .taken), check-claims _ _ e))
+
+verdict-requires : tie.Need-verdict-requires
+verdict-requires c κs = search needs
+
+write-report-requires : tie.Need-write-report-requires
+write-report-requires c κs = search needs
+
+same-length : tie.Need-same-length
+same-length c = search needs
+
+returns-2 : tie.Need-returns-2
+returns-2 c =
+    let d = c .before .before .before .before in
+    let e = d .verdict .ensures ∙ sym (check-long _ _ (d .before .if1 .left)) in
+    (e, (c .before .before .write-report .ensures, check-claims _ _ e))
+
+pub check-spec : {M : Type 1} → statement M
+check-spec =
+    tie.close
+    (tie.spec
+    unnamed-requires
+    returns
+    verdict-requires
+    write-report-requires
+    same-length
+    returns-2)

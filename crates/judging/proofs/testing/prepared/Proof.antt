@@ -1,0 +1,13 @@
+-- `judging::testing::prepared` meets its contract.
+-- Assumes nothing.
+use mathlib.Core.Path.{refl}
+use Rattle.judging.specs.Testing.{preparedOf}
+use Rattle.judging.proofs.testing.prepared.Statement.{statement}
+use Rattle.judging.proofs.testing.prepared.Tie as tie
+
+returns : tie.Need-returns
+unfolding preparedOf
+returns c = refl
+
+pub prepared-spec : {M : Type 1} → statement M
+prepared-spec = tie.close (tie.spec returns)

@@ -1,0 +1,144 @@
+// The verdict on a file: the lowest broken condition with the lowest state that breaks it; and what a single test answers.
+use crate::conditions::Condition;
+use crate::conditions::condition_at;
+use crate::conditions::total;
+use crate::report::Verdict;
+use crate::testing::passes;
+use crate::testing::test_of;
+use evaluating::states::advance;
+use evaluating::states::count;
+use evaluating::states::highs;
+use evaluating::states::lows;
+use parsing::outline::Outline;
+use parsing::sections::node_places;
+use parsing::sections::transition_places;
+use reading::Reading;
+use reading::read;
+ghost use mathlib.Core.Path.{_≡_};
+ghost use Prim.Native.Nat.{_≤_, _<_};
+ghost use Rattle.reading.specs.declared.Reading.{Reading};
+ghost use Rattle.reading.specs.Read.{readOf};
+ghost use Rattle.judging.specs.Condition.{nodeNumber, transitionNumber};
+ghost use Rattle.judging.specs.Verdict.{unnamedOf, namedOf, judgedOf, verdictBy};
+
+// What a single test answers: the refusal that meets it, with its number and its place; or whether the condition holds at the state.
+pub enum Single {
+    Refused(u8, usize),
+    Holds,
+    Fails,
+}
+
+// A verdict that names no condition.
+pub fn unnamed(number: u8, at: u32) -> Verdict
+    ensures { λ r. ⌜ r ≡ unnamedOf number at ⌝ }
+{
+    Verdict {
+        number,
+        node: 255,
+        transition: 255,
+        at,
+        values: [0; 12],
+    }
+}
+
+// The verdict that names a broken condition, its number, and the state that breaks it.
+fn named(condition: Condition, number: u32, state: [i16; 12]) -> Verdict
+    requires { ⌜ (nodeNumber condition ≤ 255) × (transitionNumber condition ≤ 255) ⌝ }
+    ensures { λ r. ⌜ r ≡ namedOf condition number state ⌝ }
+{
+    match condition {
+        Condition::Start => Verdict {
+            number: 13,
+            node: 255,
+            transition: 255,
+            at: number,
+            values: state,
+        },
+        Condition::Entry => Verdict {
+            number: 14,
+            node: 255,
+            transition: 255,
+            at: number,
+            values: state,
+        },
+        Condition::Cover(n) => Verdict {
+            number: 15,
+            node: n as u8,
+            transition: 255,
+            at: number,
+            values: state,
+        },
+        Condition::Range(n, t) => Verdict {
+            number: 16,
+            node: n as u8,
+            transition: t as u8,
+            at: number,
+            values: state,
+        },
+        Condition::Step(n, t) => Verdict {
+            number: 17,
+            node: n as u8,
+            transition: t as u8,
+            at: number,
+            values: state,
+        },
+        Condition::Enabling(n, t) => Verdict {
+            number: 18,
+            node: n as u8,
+            transition: t as u8,
+            at: number,
+            values: state,
+        },
+    }
+}
+
+// The verdict on a readable file. Each condition is prepared once, then tested at one state after the other.
+fn judge(file: &[u8], outline: Outline) -> Verdict
+    requires { ⌜ readOf (now file) ≡ Reading.Readable outline ⌝ }
+    ensures { λ r. ⌜ r ≡ judgedOf (now (file .entry)) outline ⌝ }
+{
+    let low = lows(file, outline.vars);
+    let high = highs(file, outline.vars);
+    let states = count(low, high);
+    let nodes = node_places(file, outline.vars, outline.nodes, outline.node);
+    let transitions = transition_places(
+        file,
+        outline.vars,
+        outline.transitions,
+        outline.transition,
+    );
+    let total = total(file, outline);
+    let mut number: usize = 0;
+    let mut state = low;
+    'conditions: while number < total {
+        let condition = condition_at(file, outline, number);
+        let test = test_of(file, outline, nodes, transitions, condition);
+        state = low;
+        let mut n: usize = 0;
+        'states: while n < states {
+            if !passes(file, low, high, test, state) {
+                break 'conditions;
+            }
+            let next = advance(low, high, state);
+            state = next;
+            n += 1;
+        }
+        number += 1;
+    }
+    if number < total {
+        let broken = condition_at(file, outline, number);
+        return named(broken, number as u32, state);
+    }
+    unnamed(0, total as u32)
+}
+
+// The verdict on a file.
+pub fn verdict(file: &[u8]) -> Verdict
+    ensures { λ r. ⌜ r ≡ verdictBy (now (file .entry)) (readOf (now (file .entry))) ⌝ }
+{
+    let found = read(file);
+    match found {
+        Reading::Readable(outline) => judge(file, outline),
+        Reading::Refused(number, place) => unnamed(number, place as u32),
+    }
+}

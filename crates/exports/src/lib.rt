@@ -5,6 +5,7 @@ ghost use mathlib.Core.Path.{_≡_};
 ghost use Rattle.reading.specs.Read.{readOf};
 ghost use Rattle.exports.specs.Answer.{readable, refused, answerOf};
 
+pub mod checking;
 pub mod starting;
 
 // What reading a file answers. `number` is 0 for a readable file, with its outline, or else the refusal's, with its place.

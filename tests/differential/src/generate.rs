@@ -1,7 +1,10 @@
-//! Random files: drafts that keep to the format but for chosen twists, sample files, and both
-//! damaged; splices, random records, random bytes. What comes out depends on the seed alone.
+//! Random files: drafts that keep to the format but for chosen twists, diagrams that establish
+//! their claims or nearly do, sample files, and all of them damaged; splices, random records, random
+//! bytes. What comes out depends on the seed alone.
 
 use crate::model;
+
+mod diagrams;
 
 type Record = [u8; 8];
 /// Records of an expression, in prefix order.
@@ -817,8 +820,9 @@ pub fn file(random: &mut Random) -> Vec<u8> {
             let (head, tail) = (whole(random), whole(random));
             splice(random, &head, &tail).concat()
         }
-        6..=59 => Draft::random(random).records().concat(),
-        60..=89 => {
+        6..=39 => Draft::random(random).records().concat(),
+        40..=69 => diagrams::diagram(random).concat(),
+        70..=91 => {
             let mut file = whole(random).concat();
             for _ in 0..random.pick(&[1, 1, 1, 2, 3]) {
                 let at = any_record(random, &file);
@@ -836,16 +840,45 @@ pub fn file(random: &mut Random) -> Vec<u8> {
     }
 }
 
-/// The records of a draft or of a sample.
+/// A number below the limit, beside it or far above it.
+pub fn number(random: &mut Random, limit: usize) -> usize {
+    match random.below(12) {
+        0 => 0,
+        1 => limit.saturating_sub(1),
+        2 => limit,
+        3 => match random.below(3) {
+            0 => usize::MAX,
+            1 => 1 << (8 << random.below(3)),
+            // Its low 32 bits are below the limit.
+            _ => (1 << 32) + random.below(limit),
+        },
+        _ => random.below(limit),
+    }
+}
+
+/// The bytes of a report buffer and others behind them, and the buffer's length, at most 64.
+pub fn buffer(random: &mut Random) -> (Vec<u8>, usize) {
+    let length = match random.below(16) {
+        0 => random.below(32),
+        1 => 31,
+        2 => 32,
+        _ => 32 + random.below(33),
+    };
+    let behind = 1 + random.below(32);
+    (random.bytes(length + behind), length)
+}
+
+/// The records of a draft, a diagram or a sample.
 fn whole(random: &mut Random) -> Vec<Record> {
-    if random.percent(10) {
-        let sample = random.pick(&SAMPLES);
-        return sample
+    match random.below(10) {
+        0 => random
+            .pick(&SAMPLES)
             .chunks_exact(8)
             .map(|bytes| bytes.try_into().unwrap())
-            .collect();
+            .collect(),
+        1..=3 => diagrams::diagram(random),
+        _ => Draft::random(random).records(),
     }
-    Draft::random(random).records()
 }
 
 /// The head of one file and the tail of another: cut anywhere, or before records of one kind.

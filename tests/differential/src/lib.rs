@@ -1,5 +1,5 @@
 //! Compares the verification diagram checker, linked as a C library, with a model of document 01:
-//! reading, and the count of starting states.
+//! reading, the count of starting states, the check and the single test.
 
 pub mod fixed;
 pub mod generate;
@@ -45,10 +45,49 @@ pub struct Starting {
     pub starting: usize,
 }
 
+/// The check's result: "The check's result carries the same fields" as the report.
+#[repr(C)]
+#[derive(Clone, Copy, Debug, Default, PartialEq, Eq)]
+pub struct Verdict {
+    /// 0 for an accepted file, else the refusal's number, 1 to 10 or 13 to 18.
+    pub number: u8,
+    /// The broken condition's node and transition, 255 for none.
+    pub node: u8,
+    pub transition: u8,
+    /// The broken condition, the place, or for 0 the total of the conditions.
+    pub at: u32,
+    /// The state that breaks the condition.
+    pub values: [i16; 12],
+}
+
+/// What a single test answers.
+#[repr(C)]
+#[derive(Clone, Copy, Debug, Default, PartialEq, Eq)]
+pub struct Tested {
+    /// 0 if the test was made, else the refusal's number, 2 to 12.
+    pub number: usize,
+    pub place: usize,
+    /// Whether the condition holds at the state; false in a refusal.
+    pub holds: bool,
+}
+
 /// Said first by the programs, so that nobody takes the stub's answers for the library's.
 pub fn announce() {
     if cfg!(feature = "stub") {
         println!("stub: the model stands in for the library");
+    }
+}
+
+impl Verdict {
+    /// A verdict that names no condition.
+    pub fn unnamed(number: u8, at: u32) -> Verdict {
+        Verdict {
+            number,
+            node: 255,
+            transition: 255,
+            at,
+            values: [0; 12],
+        }
     }
 }
 

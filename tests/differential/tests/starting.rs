@@ -1,7 +1,8 @@
 //! Counts of starting states, worked out by hand.
 
 use differential::generate::record;
-use differential::{fixed, library, model, Starting};
+use differential::model::Model;
+use differential::{fixed, library, Starting};
 
 /// The expression's records: kind, a, b.
 type Expression<'a> = &'a [(u8, u8, i16)];
@@ -35,7 +36,7 @@ fn counts(file: &[u8], states: usize, starting: usize) {
         ..Starting::default()
     };
     assert_eq!(library::starting_states(file), expected);
-    assert_eq!(model::answers(file, usize::MAX).1, Some(expected));
+    assert_eq!(Model::new(file).starting_states(usize::MAX), Some(expected));
 }
 
 #[test]
@@ -57,7 +58,11 @@ fn refusals() {
                 ..Starting::default()
             };
             assert_eq!(library::starting_states(&file), expected, "{name}");
-            assert_eq!(model::answers(&file, 0).1, Some(expected), "{name}");
+            assert_eq!(
+                Model::new(&file).starting_states(0),
+                Some(expected),
+                "{name}"
+            );
         }
     }
 }

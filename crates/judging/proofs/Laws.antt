@@ -17,3 +17,5 @@ pub mod Listed
 pub mod Sound
 pub mod System
 pub mod Verdict
+pub mod Report
+pub mod Check

@@ -1,5 +1,6 @@
--- The three claims about the runs of a system (demand 3 and the paragraph under "Conditions"), each a statement about whole runs. N nodes are
--- numbered from 0; `node i s` says that node i is true at s.
+-- The three claims about the runs of a system (demand 3 and the paragraph under "Conditions"), each a statement about whole runs. A run begins in
+-- any state, so "Wait-for and chain claims hold from every state, starting or not." N nodes are numbered from 0; `node i s` says that
+-- node i is true at s.
 use Prim.Native.Nat.{ℕ, _+_, _*_, _≤_, _<_}
 use mathlib.Core.Path.{_≡_}
 use mathlib.Core.Bool.{Bool, not}
@@ -17,7 +18,8 @@ pub record Waiting {S : Type 0} (q₀ : S → Bool) (r : Run S) (n i : ℕ) : Ty
   pub position : Position r i
   pub unmet : (j : ℕ) → n ≤ j → j ≤ i → T (not (q₀ (at r j)))
 
--- these positions "can be given numbers from 1 to m that never rise, such that at each of these positions the q of its number holds"
+-- these positions "can be given numbers from 1 to m that never rise, such that at each of these positions the q of its number holds". "Wait-for
+-- numbers may be skipped; where q_0 never comes they go on to the run's end, or for ever"
 pub record Numbered {S : Type 0} (m : ℕ) (q : ℕ → S → Bool) (r : Run S) (n : ℕ) : Type 0 where
   pub number : ℕ → ℕ
   pub from-one : (i : ℕ) → Waiting (q 0) r n i → 1 ≤ number i

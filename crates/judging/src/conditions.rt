@@ -55,7 +55,7 @@ fn layout(file: &[u8], outline: Outline) -> Blocks
 }
 
 // How many conditions a readable file's diagram has.
-pub fn total(file: &[u8], outline: Outline) -> usize
+pub(crate) fn total(file: &[u8], outline: Outline) -> usize
     requires { ⌜ readOf (now file) ≡ Reading.Readable outline ⌝ }
     ensures { λ r. ⌜ r ≡ totalOf (now (file .entry)) outline ⌝ }
 {
@@ -65,7 +65,7 @@ pub fn total(file: &[u8], outline: Outline) -> usize
 }
 
 // The transition of the node's double edges, or one past the file's transitions where it has none.
-pub fn double_of(file: &[u8], outline: Outline, node: usize) -> usize
+pub(crate) fn double_of(file: &[u8], outline: Outline, node: usize) -> usize
     requires { ⌜ readOf (now file) ≡ Reading.Readable outline ⌝ }
     ensures { λ r. ⌜ r ≡ doubleOf (now (file .entry)) outline node ⌝ }
 {
@@ -104,7 +104,7 @@ fn pair(node: usize, k: usize) -> Condition
 }
 
 // The condition of a number.
-pub fn condition_at(file: &[u8], outline: Outline, number: usize) -> Condition
+pub(crate) fn condition_at(file: &[u8], outline: Outline, number: usize) -> Condition
     requires readable { ⌜ readOf (now file) ≡ Reading.Readable outline ⌝ }
     requires below { ⌜ number < totalOf (now file) outline ⌝ }
     ensures { λ r. ⌜ r ≡ conditionAt (now (file .entry)) outline number ⌝ }

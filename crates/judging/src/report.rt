@@ -35,7 +35,7 @@ fn put_values(values: [i16; 12], report: &mut [u8])
 }
 
 // The verdict, in the first 32 bytes of a report that has room for them. A shorter one is left as it is.
-pub fn write_report(verdict: Verdict, report: &mut [u8])
+pub(crate) fn write_report(verdict: Verdict, report: &mut [u8])
     ensures { λ _. ⌜ now (report .exit) ≡ reportOf verdict (now (report .entry)) ⌝ }
 {
     if report.len() < 32 {

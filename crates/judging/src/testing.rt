@@ -154,7 +154,7 @@ fn prepared(premise: usize, conclusion: Conclusion, transition: usize, targets: 
 }
 
 // The test of a condition, where `nodes` and `transitions` have their records.
-pub fn test_of(
+pub(crate) fn test_of(
     file: &[u8],
     outline: Outline,
     nodes: [usize; 32],
@@ -216,7 +216,13 @@ fn some_holds(file: &[u8], places: [u16; 32], count: usize, state: [i16; 12]) ->
 }
 
 // Whether a condition holds at a state: its conclusion is looked at only where its premise is true.
-pub fn passes(file: &[u8], low: [i16; 12], high: [i16; 12], test: Test, state: [i16; 12]) -> bool
+pub(crate) fn passes(
+    file: &[u8],
+    low: [i16; 12],
+    high: [i16; 12],
+    test: Test,
+    state: [i16; 12],
+) -> bool
     requires within { ⌜ Within low high state ⌝ }
     requires fits { ⌜ TestFits low high (now file) test ⌝ }
     ensures { λ r. ⌜ r ≡ passesOf low high (now (file .entry)) test state ⌝ }

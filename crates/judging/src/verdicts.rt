@@ -29,7 +29,7 @@ pub enum Single {
 }
 
 // A verdict that names no condition.
-pub fn unnamed(number: u8, at: u32) -> Verdict
+pub(crate) fn unnamed(number: u8, at: u32) -> Verdict
     ensures { λ r. ⌜ r ≡ unnamedOf number at ⌝ }
 {
     Verdict {
@@ -133,7 +133,7 @@ fn judge(file: &[u8], outline: Outline) -> Verdict
 }
 
 // The verdict on a file.
-pub fn verdict(file: &[u8]) -> Verdict
+pub(crate) fn verdict(file: &[u8]) -> Verdict
     ensures { λ r. ⌜ r ≡ verdictBy (now (file .entry)) (readOf (now (file .entry))) ⌝ }
 {
     let found = read(file);

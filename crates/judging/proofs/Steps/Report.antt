@@ -5,13 +5,12 @@ use mathlib.Core.List.{List, [], _∷_, _++_, append-assoc}
 use Prim.Native.Nat.{ℕ, suc, _+_, _*_, _≤_, _<_}
 use native.Mathlib.Numerals.{add-one}
 use native.Mathlib.Omega.{arith}
-use borrow.Author.Tests.{lt-ltb}
 use lib.IntN.{ℤ, pos}
 use lib.ListN.{length, take, drop, getD, set, length-append, length-set, take-append-drop}
 use lib.Seq.{take-suc, take-all, drop-cons, length-take-le}
 use Rattle.integers.specs.Bytes.{lowByte, highByte}
-use Rattle.judging.specs.Report.{valueBytes, reportOf}
-use Rattle.judging.specs.declared.report.Verdict.{Verdict}
+use Rattle.judging.specs.Report.{valueBytes}
+use Rattle.judging.proofs.Laws.Report.{value-bytes}
 
 set-pair : (p q : List ℕ) (x y a b : ℕ) → set (set (p ++ x ∷ y ∷ q) (length p) a) (suc (length p)) b ≡ p ++ a ∷ b ∷ q
 set-pair [] q x y a b = refl
@@ -24,11 +23,6 @@ bytes-append : (s t : List ℤ) → valueBytes (s ++ t) ≡ valueBytes s ++ valu
 unfolding valueBytes
 bytes-append [] t = refl
 bytes-append (z ∷ s) t = ap {B = List ℕ} (λ l. lowByte z ∷ highByte z ∷ l) (bytes-append s t)
-
-bytes-length : (s : List ℤ) → length (valueBytes s) ≡ 2 * length s
-unfolding valueBytes
-bytes-length [] = refl
-bytes-length (z ∷ s) = omega (arith, bytes-length s)
 
 unfoldable pub filled : List ℕ → List ℤ → ℕ → List ℕ
 filled report values i = take 8 report ++ (valueBytes (take i values) ++ drop (2 * i + 8) report)
@@ -59,7 +53,7 @@ module _ (report₀ : List ℕ) (values : List ℤ) where
 
     head-length : (i : ℕ) → i < 12 → length (head i) ≡ 2 * i + 8
     head-length i h =
-        simp (length-append, bytes-length, length-take-le 8 report₀ (omega arith), length-take-le i values (omega arith)) (omega arith)
+        simp (length-append, value-bytes, length-take-le 8 report₀ (omega arith), length-take-le i values (omega arith)) (omega arith)
 
     -- the report before a turn, with the two bytes that it sets, and after it
     before : (i : ℕ) → i < 12
@@ -100,7 +94,3 @@ module _ (report₀ : List ℕ) (values : List ℤ) where
           let p = f .passed in
           let e : i ≡ 12 = omega arith in
           rw (e, take-all 12 values (omega arith)) at (f .done)
-
-pub report-short : (v : Verdict) (report : List ℕ) → length report < 32 → report ≡ reportOf v report
-unfolding reportOf
-report-short v report l = rw (lt-ltb _ _ l)

@@ -1,13 +1,12 @@
 -- The search for the lowest broken condition: what is at hand before it, a condition and its test, and the loops over the states and the conditions.
 -- Assumes nothing.
-use mathlib.Core.Path.{_≡_, refl, sym, ap, _∙_}
+use mathlib.Core.Path.{_≡_, sym, _∙_}
 use mathlib.Core.Bool.{Bool, true, false, not, cond}
 use mathlib.Core.List.{List}
 use Prim.Native.Nat.{ℕ, _+_, _/_, _<_, _≤_}
 use native.Mathlib.Omega.{arith}
 use borrow.Author.Count.{below-more}
-use borrow.Author.Tests.{lt-ltb, le-ltb, le-leb, lt-leb, not-true, not-false}
-use lib.Dec.{ltb}
+use borrow.Author.Tests.{le-leb, lt-leb, not-true, not-false}
 use lib.IntN.{ℤ}
 use lib.ListN.{length}
 use Rattle.parsing.specs.declared.outline.Outline.{Outline}
@@ -17,24 +16,20 @@ use Rattle.parsing.proofs.Laws.Section.{kind-here}
 use Rattle.reading.specs.declared.Reading.{Reading}
 use Rattle.reading.specs.Read.{readOf}
 use Rattle.reading.proofs.Laws.Readable.{variables-within, transitions-within, nodes-within, node, fits}
-use Rattle.reading.proofs.Laws.Refusal.{read-refuses}
 use Rattle.evaluating.specs.State.{lowsOf, highsOf, Ranges, Within, State}
 use Rattle.evaluating.specs.Number.{countOf, stateOf, advanceOf}
 use Rattle.evaluating.proofs.Laws.Readable.{ranges, states-within, numbered, first, next}
 use Rattle.judging.specs.Condition.{totalOf, conditionAt, Listed, nodeNumber, transitionNumber}
 use Rattle.judging.specs.Holding.{conditionHolds}
 use Rattle.judging.specs.Testing.{nodesOf, transitionsOf, testOf, passesOf, TestFits}
-use Rattle.judging.specs.Verdict.{statesOf, stateAt, unnamedOf, namedOf, isTrue, judgedOf, verdictBy, checkOf, testedOf}
-use Rattle.judging.specs.System.{Claim}
+use Rattle.judging.specs.Verdict.{statesOf, stateAt, unnamedOf, namedOf, isTrue, judgedOf, testedOf}
 use Rattle.judging.specs.declared.conditions.Condition.{Condition}
 use Rattle.judging.specs.declared.conditions.Condition.the-variants.{Start, Entry, Cover, Range, Step, Enabling}
-use Rattle.judging.specs.declared.report.Verdict.{Verdict}
 use Rattle.judging.specs.declared.testing.Test.{Test}
 use Rattle.judging.specs.declared.verdicts.Single.{Single}
 use Rattle.judging.proofs.Laws.Condition.{Parts, condition-listed, listed-parts, total-most}
 use Rattle.judging.proofs.Laws.Testing.{prepared, test-fits}
-use Rattle.judging.proofs.Laws.Verdict.{true-at, judged-broken, judged-whole, accepted}
-use Rattle.judging.proofs.Laws.Sound.{sound}
+use Rattle.judging.proofs.Laws.Verdict.{true-at, judged-broken, judged-whole}
 
 pub count-is : (file : List ℕ) (o : Outline) {low high : List ℤ} {states : ℕ} → low ≡ lowsOf file (o .vars) → high ≡ highsOf file (o .vars)
     → states ≡ countOf low high → states ≡ statesOf file o
@@ -223,26 +218,3 @@ module _ {file : List ℕ} {o : Outline} {low high : List ℤ} {states : ℕ} {n
 
     pub searched-end : total ≤ number → unnamedOf 0 total ≡ judgedOf file o
     searched-end l = rw (h .total-is) (sym (judged-whole file o (λ k j. s .held k (omega (arith, j, l, h .total-is)))))
-
--- ---- what an accepted file claims
-reading-claims : (file : List ℕ) (x : Reading) → readOf file ≡ x → verdictBy file x .number ≡ 0 → Claim file
-unfolding verdictBy unnamedOf
-reading-claims file (Reading.Readable o) is e = record { outline = o; readable = is; claimed = sound file o is (accepted file o is e) }
-reading-claims file (Reading.Refused number place) is e = absurd (omega (arith, e, read-refuses file number place is .from))
-
-module _ (file : List ℕ) (room : ℕ) where
-  pub check-short : room < 32 → checkOf file room ≡ unnamedOf 1 0
-  unfolding checkOf
-  check-short l = rw (lt-ltb _ _ l)
-
-  pub check-long : 32 ≤ room → checkOf file room ≡ verdictBy file (readOf file)
-  unfolding checkOf
-  check-long l = rw (le-ltb _ _ l)
-
-  pub check-claims : {v : Verdict} → v ≡ checkOf file room → v .number ≡ 0 → Claim file
-  unfolding checkOf unnamedOf
-  check-claims e z = go (ltb room 32) (ap (λ (v : Verdict). v .number) (sym e) ∙ z)
-    where
-      go : (b : Bool) → cond b (unnamedOf 1 0) (verdictBy file (readOf file)) .number ≡ 0 → Claim file
-      go true e = absurd (omega (arith, e))
-      go false e = reading-claims file (readOf file) refl e

@@ -1,8 +1,8 @@
 -- `judging::check` meets its contract: a report that is too short is left as it is; the verdict is written to any other. An acceptance is sound.
 -- Assumes nothing.
 use mathlib.Core.Path.{sym, _∙_}
-use Rattle.judging.proofs.Steps.Report.{report-short}
-use Rattle.judging.proofs.Steps.Verdict.{check-short, check-long, check-claims}
+use Rattle.judging.proofs.Laws.Report.{report-short}
+use Rattle.judging.proofs.Laws.Check.{check-short, check-long, check-claims}
 use borrow.Author.Needs.{needs}
 use Rattle.judging.proofs.check.Statement.{statement}
 use Rattle.judging.proofs.check.Tie as tie

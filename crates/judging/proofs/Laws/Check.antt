@@ -1,0 +1,96 @@
+-- The three demands, of the check's result and report.
+--     check-short, check-long     a report of under 32 bytes is refused with 1; with a longer one the verdict on the file is given
+--     report-long                 a report of 32 bytes or more changes in its first 32 only (demand 1; `report-short` for others: Laws/Report)
+--     check-decides               a readable file, with room for a report, is accepted exactly when each condition holds at every state (demand 2)
+--     check-names                 otherwise the first untrue condition is named with a state that breaks it (demand 2)
+--     check-claims                what an accepted file claims is true (demand 3)
+-- Assumes nothing.
+use mathlib.Core.Path.{_≡_, refl, sym, ap, _∙_}
+use mathlib.Core.Logic.{_↔_}
+use mathlib.Core.Bool.{Bool, true, false, cond}
+use mathlib.Core.List.{List}
+use Prim.Native.Nat.{ℕ, _<_, _≤_}
+use native.Mathlib.Decide.{ℕ-discrete}
+use native.Mathlib.Omega.{arith}
+use borrow.Author.Tests.{lt-ltb, le-ltb}
+use lib.ListN.{length, drop}
+use lib.Dec.{ltb}
+use Rattle.parsing.specs.declared.outline.Outline.{Outline}
+use Rattle.reading.specs.declared.Reading.{Reading}
+use Rattle.reading.specs.Read.{readOf}
+use Rattle.reading.proofs.Laws.Refusal.{read-refuses}
+use Rattle.evaluating.proofs.Laws.State.{within-length, ends-length}
+use Rattle.judging.specs.Condition.{Listed}
+use Rattle.judging.specs.Verdict.{unnamedOf, judgedOf, verdictBy, checkOf}
+use Rattle.judging.specs.Report.{reportOf}
+use Rattle.judging.specs.System.{Claim}
+use Rattle.judging.specs.declared.conditions.Condition.{Condition}
+use Rattle.judging.specs.declared.report.Verdict.{Verdict}
+use Rattle.judging.proofs.Laws.Verdict.{Everywhere, accepted, accepts, Names, refused}
+use Rattle.judging.proofs.Laws.Report.{report-rest}
+use Rattle.judging.proofs.Laws.Sound.{sound}
+
+-- ---- demand 3
+reading-claims : (file : List ℕ) (x : Reading) → readOf file ≡ x → verdictBy file x .number ≡ 0 → Claim file
+unfolding verdictBy unnamedOf
+reading-claims file (Reading.Readable o) is e = record { outline = o; readable = is; claimed = sound file o is (accepted file o is e) }
+reading-claims file (Reading.Refused number place) is e = absurd (omega (arith, e, read-refuses file number place is .from))
+
+module _ (file : List ℕ) (room : ℕ) where
+  pub check-short : room < 32 → checkOf file room ≡ unnamedOf 1 0
+  unfolding checkOf
+  check-short l = rw (lt-ltb _ _ l)
+
+  pub check-long : 32 ≤ room → checkOf file room ≡ verdictBy file (readOf file)
+  unfolding checkOf
+  check-long l = rw (le-ltb _ _ l)
+
+  pub check-claims : {v : Verdict} → v ≡ checkOf file room → v .number ≡ 0 → Claim file
+  unfolding checkOf unnamedOf
+  check-claims e z = go (ltb room 32) (ap (λ (v : Verdict). v .number) (sym e) ∙ z)
+    where
+      go : (b : Bool) → cond b (unnamedOf 1 0) (verdictBy file (readOf file)) .number ≡ 0 → Claim file
+      go true e = absurd (omega (arith, e))
+      go false e = reading-claims file (readOf file) refl e
+
+-- ---- demand 2
+module _ (file : List ℕ) (o : Outline) (r : readOf file ≡ Reading.Readable o) (room : ℕ) (l : 32 ≤ room) where
+  check-judged : checkOf file room ≡ judgedOf file o
+  unfolding verdictBy
+  check-judged = check-long file room l ∙ rw r
+
+  pub check-decides : (checkOf file room .number ≡ 0) ↔ ((c : Condition) → Listed file o c → Everywhere file o c)
+  unfolding unnamedOf
+  check-decides =
+      (λ e. accepted file o r (rw check-judged at e), λ h. ap (λ (v : Verdict). v .number) (check-judged ∙ accepts file o r h))
+
+  pub check-names : (checkOf file room .number ≡ 0 → ⊥) → Names file o (checkOf file room)
+  check-names n = rw check-judged (refused file o r (rw check-judged at n))
+
+-- ---- demand 1
+-- a verdict has twelve values
+judged-values : (file : List ℕ) (o : Outline) → readOf file ≡ Reading.Readable o → length (judgedOf file o .values) ≡ 12
+unfolding unnamedOf
+judged-values file o r = go (ℕ-discrete (judgedOf file o .number) 0)
+  where
+    go : Dec (judgedOf file o .number ≡ 0) → length (judgedOf file o .values) ≡ 12
+    go (yes e) = rw (accepts file o r (accepted file o r e)) refl
+    go (no n) = within-length (refused file o r n .state) .0 ∙ ends-length file (o .vars) 2
+
+read-values : (file : List ℕ) (x : Reading) → readOf file ≡ x → length (verdictBy file x .values) ≡ 12
+unfolding verdictBy unnamedOf
+read-values file (Reading.Readable o) is = judged-values file o is
+read-values file (Reading.Refused number place) is = refl
+
+check-values : (file : List ℕ) (room : ℕ) → length (checkOf file room .values) ≡ 12
+unfolding checkOf unnamedOf
+check-values file room = go (ltb room 32)
+  where
+    go : (b : Bool) → length (cond b (unnamedOf 1 0) (verdictBy file (readOf file)) .values) ≡ 12
+    go true = refl
+    go false = read-values file (readOf file) refl
+
+pub report-long : (file report : List ℕ) → 32 ≤ length report
+    → (length (reportOf (checkOf file (length report)) report) ≡ length report)
+    × (drop 32 (reportOf (checkOf file (length report)) report) ≡ drop 32 report)
+report-long file report l = report-rest (checkOf file (length report)) report (check-values file (length report)) l

@@ -1,0 +1,35 @@
+-- Laws of the report.
+--     value-bytes      two bytes for each value
+--     report-short     a report of under 32 bytes stays untouched
+--     report-rest      of a longer one the bytes from the 33rd on stay, and its length
+-- Assumes nothing.
+use mathlib.Core.Path.{_≡_, refl, sym}
+use mathlib.Core.List.{List, [], _∷_, _++_}
+use Prim.Native.Nat.{ℕ, _*_, _≤_, _<_}
+use native.Mathlib.Omega.{arith}
+use borrow.Author.Tests.{lt-ltb, le-ltb}
+use lib.IntN.{ℤ}
+use lib.ListN.{length, drop, length-append, length-drop}
+use Rattle.judging.specs.Report.{valueBytes, reportBytes, reportOf}
+use Rattle.judging.specs.declared.report.Verdict.{Verdict}
+
+pub value-bytes : (values : List ℤ) → length (valueBytes values) ≡ 2 * length values
+unfolding valueBytes
+value-bytes [] = refl
+value-bytes (z ∷ values) = omega (arith, value-bytes values)
+
+behind : (l m : List ℕ) (n : ℕ) → length l ≡ n → drop n (l ++ m) ≡ m
+behind [] m n e = rw (sym e) refl
+behind (x ∷ l) m n e = rw (sym e) (behind l m (length l) refl)
+
+module _ (v : Verdict) (report : List ℕ) where
+  pub report-short : length report < 32 → report ≡ reportOf v report
+  unfolding reportOf
+  report-short l = rw (lt-ltb _ _ l)
+
+  pub report-rest : length (v .values) ≡ 12 → 32 ≤ length report
+      → (length (reportOf v report) ≡ length report) × (drop 32 (reportOf v report) ≡ drop 32 report)
+  unfolding reportOf reportBytes
+  report-rest twelve l =
+      let n : length (reportBytes v) ≡ 32 = omega (arith, value-bytes (v .values)) in
+      rw (le-ltb _ _ l) (rw (length-append, length-drop) (omega arith), behind (reportBytes v) (drop 32 report) 32 n)

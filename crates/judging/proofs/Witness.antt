@@ -6,7 +6,7 @@
 -- Assumes nothing.
 use mathlib.Core.Path.{_≡_, refl, sym, subst}
 use mathlib.Core.Logic.{inl, inr}
-use mathlib.Core.Bool.{Bool, true, false, not}
+use mathlib.Core.Bool.{Bool, false, not}
 use mathlib.Core.List.{List, [], _∷_}
 use Prim.Native.Nat.{ℕ, zero, suc, _+_, _<_, _≤_}
 use native.Mathlib.Nat.{add-zero}
@@ -21,6 +21,7 @@ use Rattle.judging.specs.Verdict.{statesOf, stateAt, checkOf}
 use Rattle.judging.specs.Run.{Run, finite, endless, Position, at, Step, IsRun, DisabledOrTaken, Just, KJust}
 use Rattle.judging.specs.Claim.{Waiting}
 use Rattle.judging.specs.System.{systemOf}
+use Rattle.judging.proofs.Laws.Truth.{so-true}
 use Rattle.judging.proofs.Counter.{v, Counter, b, oB, d, oD, h, oH}
 use Rattle.judging.proofs.Examples.{computed}
 
@@ -45,9 +46,6 @@ Moves r = (n : ℕ) × Position r (suc n) × (at r (suc n) ≡ at r n → ⊥)
 apart : v 1 ≡ v 0 → ⊥
 apart e = let z : _≡_ {A = ℕ} 1 0 = cc in absurd (omega arith)
 
-true-of : {b : Bool} → b ≡ true → T b
-true-of e = subst T (sym e) tt
-
 not-of : {b : Bool} → b ≡ false → T (not b)
 not-of {b} e = subst (λ (x : Bool). T (not x)) (sym e) tt
 
@@ -66,10 +64,10 @@ module _ (file : List ℕ) (o : Outline) (c : Counter file o) where
   two-state = is-state 2 (omega arith) (v 2) (c .states .3)
 
   first-move : Step (systemOf file o) (v 0) (v 1)
-  first-move = inr (0, rw (c .transitions) (omega arith), (true-of (c .zero-on .0), c .zero-on .1))
+  first-move = inr (0, rw (c .transitions) (omega arith), (so-true _ (c .zero-on .0), c .zero-on .1))
 
   second-move : Step (systemOf file o) (v 1) (v 2)
-  second-move = inr (0, rw (c .transitions) (omega arith), (true-of (c .one-on .0), c .one-on .1))
+  second-move = inr (0, rw (c .transitions) (omega arith), (so-true _ (c .one-on .0), c .one-on .1))
 
   σ-run : IsRun (systemOf file o) (endless σ)
   unfolding σ
@@ -110,10 +108,10 @@ module _ (file : List ℕ) (o : Outline) (c : Counter file o) where
   -- among any two positions in a row the step is somewhere disabled or taken
   taken : (t : ℕ) → t < 1 → (n : ℕ) → (j : ℕ) × (j < 2) × DisabledOrTaken (systemOf file o) t σ (n + j)
   unfolding σ
-  taken zero l zero = (1, omega arith, inr (true-of (c .zero-on .0), c .zero-on .1))
-  taken zero l (suc zero) = (0, omega arith, inr (true-of (c .zero-on .0), c .zero-on .1))
-  taken zero l (suc (suc zero)) = (1, omega arith, inr (true-of (c .one-on .0), c .one-on .1))
-  taken zero l (suc (suc (suc zero))) = (0, omega arith, inr (true-of (c .one-on .0), c .one-on .1))
+  taken zero l zero = (1, omega arith, inr (so-true _ (c .zero-on .0), c .zero-on .1))
+  taken zero l (suc zero) = (0, omega arith, inr (so-true _ (c .zero-on .0), c .zero-on .1))
+  taken zero l (suc (suc zero)) = (1, omega arith, inr (so-true _ (c .one-on .0), c .one-on .1))
+  taken zero l (suc (suc (suc zero))) = (0, omega arith, inr (so-true _ (c .one-on .0), c .one-on .1))
   taken zero l (suc (suc (suc (suc n)))) = (0, omega arith, rw (add-zero (suc (suc (suc (suc n))))) (inl (not-of (c .two-off))))
   taken (suc t) l n = absurd (omega arith)
 
@@ -121,14 +119,14 @@ module _ (file : List ℕ) (o : Outline) (c : Counter file o) where
 pub invariance-met : (checkOf b 32 .number ≡ 0) × IsRun (systemOf b oB) listed × T (startHolds b oB (at listed 0)) × Idles listed × Moves listed
 invariance-met =
     let c = computed .B-counts in
-    (c .accepted, listed-run b oB c, true-of (computed .B-starts), (0, omega arith, refl), (1, omega arith, apart))
+    (c .accepted, listed-run b oB c, so-true _ (computed .B-starts), (0, omega arith, refl), (1, omega arith, apart))
 
 pub wait-for-met : (checkOf h 32 .number ≡ 0) × IsRun (systemOf h oH) (endless σ) × T (pHolds h oH (σ 0)) × Waiting (qHolds h oH 0) (endless σ) 0 3
     × Idles (endless σ) × Moves (endless σ)
 unfolding σ
 wait-for-met =
     let c = computed .H-counts in
-    (c .accepted, σ-run h oH c, true-of (computed .H-premise), waiting, (0, tt, refl), (1, tt, apart))
+    (c .accepted, σ-run h oH c, so-true _ (computed .H-premise), waiting, (0, tt, refl), (1, tt, apart))
   where
     unmet : (j : ℕ) → 0 ≤ j → j ≤ 3 → T (not (qHolds h oH 0 (σ j)))
     unmet zero a l = not-of (computed .H-before₀)
@@ -149,11 +147,11 @@ chain-met =
       σ-run d oD c,
       (λ t l j n. taken d oD c t l n),
       (λ t l j n. let x = taken d oD c t l n in (x .0, x .2)),
-      true-of (computed .D-premise),
+      so-true _ (computed .D-premise),
       (0, tt, refl),
       (1, tt, apart),
       unmet,
-      true-of (computed .D-after),
+      so-true _ (computed .D-after),
     )
   where
     unmet : (j : ℕ) → j < 4 → T (not (qHolds d oD 0 (σ j)))

@@ -2,7 +2,7 @@
 --     each-same               lists that agree at each number agree
 --     each-length, each-at    blocks of one size: an element is found by a quotient and a remainder
 --     each-in, in-each        an element stands in the list of some number, and what stands there is an element
---     at-in                   what is found at a place is an element
+--     at-in, member-at        what is found at an index is an element, and an element stands at one
 -- Assumes nothing.
 use mathlib.Core.Path.{_≡_, refl, sym, ap, ap₂, _∙_}
 use mathlib.Core.Logic.{_⊎_, inl, inr}
@@ -86,3 +86,13 @@ pub at-in : {A : Type 0} (l : List A) (k : ℕ) (d : A) → k < length l → Lis
 at-in [] k d h = absurd (omega arith)
 at-in (x ∷ l) zero d h = List·Memᴰ·head refl
 at-in (x ∷ l) (suc k) d h = List·Memᴰ·tail (at-in l k d (omega arith))
+
+-- what is in a list stands at an index
+pub record At {A : Type 0} (d a : A) (list : List A) : Type 0 where
+  pub index : ℕ
+  pub below : index < length list
+  pub is : getD list index d ≡ a
+
+pub member-at : {A : Type 0} (d : A) {a : A} {list : List A} → List·Memᴰ a list → At d a list
+member-at d (List·Memᴰ·head e) = record { index = 0; below = omega arith; is = sym e }
+member-at d (List·Memᴰ·tail m) = let x = member-at d m in record { index = suc (x .index); below = omega (arith, x .below); is = x .is }

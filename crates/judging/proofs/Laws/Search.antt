@@ -11,6 +11,10 @@ use native.Mathlib.Omega.{arith}
 use Rattle.parsing.specs.Search.{any}
 use Rattle.judging.specs.Search.{firstFrom, first}
 
+pub or-second : (a b : Bool) → b ≡ true → (a || b) ≡ true
+or-second true b e = refl
+or-second false b e = e
+
 module _ (test : ℕ → Bool) where
   from-is : (n at r : ℕ) → at ≤ r → r ≤ at + n → ((k : ℕ) → at ≤ k → k < r → test k ≡ true) → (r < at + n → test r ≡ false) → firstFrom test n at ≡ r
   unfolding firstFrom
@@ -80,11 +84,7 @@ module _ (test : ℕ → Bool) where
   any-at (suc n) at zero l t = let z : at + 0 ≡ at = omega arith in rw (rw z at t)
   any-at (suc n) at (suc i) l t =
       let z : at + suc i ≡ at + 1 + i = omega arith in
-      or-right (test at) (any test n (at + 1)) (any-at n (at + 1) i (omega arith) (rw z at t))
-    where
-      or-right : (a b : Bool) → b ≡ true → (a || b) ≡ true
-      or-right true b e = refl
-      or-right false b e = e
+      or-second (test at) (any test n (at + 1)) (any-at n (at + 1) i (omega arith) (rw z at t))
 
 pub any-same : (f g : ℕ → Bool) (n at : ℕ) → ((i : ℕ) → i < n → f (at + i) ≡ g (at + i)) → any f n at ≡ any g n at
 unfolding any

@@ -36,7 +36,7 @@ use Rattle.evaluating.specs.Expression.{holdsOf}
 use Rattle.judging.specs.Diagram.{nodeAt, nodeHolds, claimedAt, qAt, carries}
 use Rattle.judging.specs.Holding.{someNode, someTarget}
 use Rattle.judging.specs.Testing.{marksOf, chosenFrom, nodesOf, transitionsOf, someHolds}
-use Rattle.judging.proofs.Laws.Search.{any-at, any-same}
+use Rattle.judging.proofs.Laws.Search.{or-second, any-at, any-same}
 
 -- ---- truths
 same-bool : (a b : Bool) → (a ≡ true → b ≡ true) → (b ≡ true → a ≡ true) → a ≡ b
@@ -50,13 +50,6 @@ either false b e = inr e
 
 or-first : (a b : Bool) → a ≡ true → (a || b) ≡ true
 or-first a b e = rw e
-
-or-second : (a b : Bool) → b ≡ true → (a || b) ≡ true
-or-second true b e = refl
-or-second false b e = e
-
-both : (a b : Bool) → a ≡ true → b ≡ true → (a && b) ≡ true
-both a b e f = rw (e, f)
 
 any-below : (test : ℕ → Bool) (n i : ℕ) → i < n → test i ≡ true → any test n 0 ≡ true
 any-below test n i l t = any-at test n 0 i l (let z : 0 + i ≡ i = omega arith in rw z t)
@@ -133,7 +126,7 @@ module _ (keep : Bool) (n edges edge : ℕ) (carried : ℕ → Bool) (to : ℕ �
     kept j h e =
         let b = and-eq-true-iff keep (eqb j n) .0 e in
         let same : j ≡ n = eqb-true j n (b .1) in
-        or-first (keep && holds n) targetHolds (both keep (holds n) (b .0) (rw same at h))
+        or-first (keep && holds n) targetHolds (and-eq-true-iff keep (holds n) .1 (b .0, rw same at h))
 
     moved : (j : ℕ) → holds j ≡ true → isTarget j ≡ true → ((keep && holds n) || targetHolds) ≡ true
     moved j h e =
@@ -142,7 +135,7 @@ module _ (keep : Bool) (n edges edge : ℕ) (carried : ℕ → Bool) (to : ℕ �
         let same : to (edge + s .which) ≡ j = eqb-true (to (edge + s .which)) j (b .1) in
         or-second (keep && holds n) targetHolds
         (any-at (λ e. carried e && holds (to e)) edges edge (s .which) (s .below)
-        (both (carried (edge + s .which)) (holds (to (edge + s .which))) (b .0) (rw same h)))
+        (and-eq-true-iff (carried (edge + s .which)) (holds (to (edge + s .which))) .1 (b .0, rw same h)))
 
     forth : (j : ℕ) → (isMarked j && holds j) ≡ true → ((keep && holds n) || targetHolds) ≡ true
     forth j e =
@@ -155,10 +148,13 @@ module _ (keep : Bool) (n edges edge : ℕ) (carried : ℕ → Bool) (to : ℕ �
       stays e =
           let b = and-eq-true-iff keep (holds n) .0 e in
           any-below (λ j. isMarked j && holds j) nodes n there
-          (both (isMarked n) (holds n) (or-first (keep && eqb n n) (isTarget n) (both keep (eqb n n) (b .0) (eq-eqb n n refl))) (b .1))
+          (and-eq-true-iff (isMarked n) (holds n) .1
+          (or-first (keep && eqb n n) (isTarget n) (and-eq-true-iff keep (eqb n n) .1 (b .0, eq-eqb n n refl)), b .1))
 
       reach : (j : ℕ) → j < nodes → holds j ≡ true → isTarget j ≡ true → any (λ j. isMarked j && holds j) nodes 0 ≡ true
-      reach j l h a = any-below (λ j. isMarked j && holds j) nodes j l (both (isMarked j) (holds j) (or-second (keep && eqb j n) (isTarget j) a) h)
+      reach j l h a =
+          any-below (λ j. isMarked j && holds j) nodes j l
+          (and-eq-true-iff (isMarked j) (holds j) .1 (or-second (keep && eqb j n) (isTarget j) a, h))
 
       goes : targetHolds ≡ true → any (λ j. isMarked j && holds j) nodes 0 ≡ true
       goes e =
@@ -167,7 +163,7 @@ module _ (keep : Bool) (n edges edge : ℕ) (carried : ℕ → Bool) (to : ℕ �
           let j = to (edge + s .which) in
           reach j (named (s .which) (s .below)) (b .1)
           (any-at (λ e. carried e && eqb (to e) j) edges edge (s .which) (s .below)
-          (both (carried (edge + s .which)) (eqb j j) (b .0) (eq-eqb j j refl)))
+          (and-eq-true-iff (carried (edge + s .which)) (eqb j j) .1 (b .0, eq-eqb j j refl)))
 
       pub marked-some : any (λ j. isMarked j && holds j) nodes 0 ≡ ((keep && holds n) || targetHolds)
       marked-some =

@@ -8,13 +8,12 @@
 use mathlib.Core.Path.{_≡_, refl, sym, ap, _∙_}
 use mathlib.Core.Logic.{_⊎_, inl, inr}
 use mathlib.Core.Bool.{Bool, true, false, cond}
-use mathlib.Core.List.{List, List·Memᴰ, List·Memᴰ·head, List·Memᴰ·tail}
-use Prim.Native.Nat.{ℕ, suc, _<_, _≤_}
+use mathlib.Core.List.{List}
+use Prim.Native.Nat.{ℕ, _<_, _≤_}
 use native.Mathlib.Nat.{le-refl, lt-irrefl, le-of-lt, lt-of-lt-of-le}
 use native.Mathlib.Omega.{arith}
 use borrow.Author.Tests.{lt-ltb, le-ltb, ltb-true, ltb-false, le-leb, lt-leb, leb-true, leb-false}
 use lib.IntN.{ℤ}
-use lib.ListN.{length, getD}
 use lib.Dec.{ltb}
 use Rattle.parsing.specs.declared.outline.Outline.{Outline}
 use Rattle.reading.specs.declared.Reading.{Reading}
@@ -28,18 +27,9 @@ use Rattle.judging.specs.Verdict.{statesOf, stateAt, unnamedOf, namedOf,
 use Rattle.judging.specs.declared.conditions.Condition.{Condition}
 use Rattle.judging.specs.declared.conditions.Condition.the-variants.{Start, Entry, Cover, Range, Step, Enabling}
 use Rattle.judging.specs.declared.report.Verdict.{Verdict}
+use Rattle.judging.proofs.Laws.Each.{At, member-at}
 use Rattle.judging.proofs.Laws.Search.{first-is, first-passes, first-fails}
 use Rattle.judging.proofs.Laws.Condition.{condition-listed}
-
--- what is in a list stands at an index
-record At {A : Type 0} (d a : A) (list : List A) : Type 0 where
-  index : ℕ
-  below : index < length list
-  is : getD list index d ≡ a
-
-member-at : {A : Type 0} (d : A) {a : A} {list : List A} → List·Memᴰ a list → At d a list
-member-at d (List·Memᴰ·head e) = record { index = 0; below = omega arith; is = sym e }
-member-at d (List·Memᴰ·tail m) = let x = member-at d m in record { index = suc (x .index); below = omega (arith, x .below); is = x .is }
 
 refusal-above : (c : Condition) → 13 ≤ refusalNumber c
 unfolding refusalNumber

@@ -1,7 +1,7 @@
 -- The nodes marked, the places chosen and the truths tried, one after the other; and a test, by what its premise and its step say.
 -- Assumes nothing.
 use mathlib.Core.Path.{_≡_, refl, sym, ap, subst, _∙_}
-use mathlib.Core.Bool.{Bool, true, false, not, cond, _&&_, _||_, and-eq-true-iff}
+use mathlib.Core.Bool.{Bool, true, false, not, cond, _&&_, _||_, false≢true, and-eq-true-iff}
 use mathlib.Core.List.{List, [], _∷_, _++_, append-nil, append-assoc}
 use Prim.Native.Nat.{ℕ, zero, suc, _+_, _*_, _-_, _≤_, _<_}
 use native.Mathlib.Numerals.{add-one}
@@ -244,14 +244,15 @@ unfolding implies
 implies-or true q = refl
 implies-or false q = refl
 
-pub range-apart : {k : Conclusion} → k ≡ Conclusion.InRange → k ≡ Conclusion.SomeTarget → ⊥
-range-apart e f = let z : _≡_ {A = ℕ} 0 1 = cc in omega arith
+-- whether a conclusion speaks of a transition
+abbrev pub steps : Conclusion → Bool
+steps Conclusion.SomeTarget = false
+steps Conclusion.InRange = true
+steps Conclusion.Reached = true
+steps Conclusion.Enabled = true
 
-pub reached-apart : {k : Conclusion} → k ≡ Conclusion.Reached → k ≡ Conclusion.SomeTarget → ⊥
-reached-apart e f = let z : _≡_ {A = ℕ} 0 1 = cc in omega arith
-
-pub enabled-apart : {k : Conclusion} → k ≡ Conclusion.Enabled → k ≡ Conclusion.SomeTarget → ⊥
-enabled-apart e f = let z : _≡_ {A = ℕ} 0 1 = cc in omega arith
+pub steps-apart : {k c : Conclusion} → k ≡ c → steps c ≡ true → k ≡ Conclusion.SomeTarget → ⊥
+steps-apart e t f = false≢true (ap steps (sym f ∙ e) ∙ t)
 
 module _ (lows highs : List ℤ) (file : List ℕ) (at : ℕ) (state : List ℤ) {s : Stepped} (is : s ≡ stepOf lows highs file at state) where
   enabled-is : s .enabled ≡ enabledOf lows highs file at state

@@ -1,11 +1,11 @@
 -- `judging::testing::passes` meets its contract, by what the premise and the step say.
 -- Assumes nothing.
 use borrow.Author.Needs.{needs}
-use mathlib.Core.Path.{_≡_, sym, _∙_}
+use mathlib.Core.Path.{_≡_, refl, sym, _∙_}
 use mathlib.Core.Bool.{true}
 use borrow.Author.Tests.{not-true, not-false}
 use Rattle.evaluating.specs.Expression.{holdsOf}
-use Rattle.judging.proofs.Steps.Testing.{range-apart, reached-apart, enabled-apart, next-within}
+use Rattle.judging.proofs.Steps.Testing.{steps-apart, next-within}
 use Rattle.judging.proofs.Steps.Testing.{passes-vacuous, passes-some, passes-range, passes-idle, passes-reached, passes-enabled}
 use Rattle.judging.proofs.testing.passes.Statement.{statement}
 use Rattle.judging.proofs.testing.passes.Tie as tie
@@ -31,7 +31,7 @@ enum-told-2 c = search needs
 step-requires : tie.Need-step-requires
 step-requires c κs =
     let p = c .before .before .before .before .before .before .pre in
-    p .1 .transition (range-apart (c .enum-told2 .given .1)) _ (p .0)
+    p .1 .transition (steps-apart (c .enum-told2 .given .1) refl) _ (p .0)
 
 enum-told-3 : tie.Need-enum-told-3
 enum-told-3 c = search needs
@@ -39,7 +39,7 @@ enum-told-3 c = search needs
 step-requires-2 : tie.Need-step-requires-2
 step-requires-2 c κs =
     let p = c .before .before .before .before .before .before .pre in
-    p .1 .transition (reached-apart (c .enum-told3 .given .1)) _ (p .0)
+    p .1 .transition (steps-apart (c .enum-told3 .given .1) refl) _ (p .0)
 
 returns-2 : tie.Need-returns-2
 returns-2 c =
@@ -58,7 +58,7 @@ enum-told-4 c = search needs
 step-requires-3 : tie.Need-step-requires-3
 step-requires-3 c κs =
     let p = c .before .before .before .before .before .before .pre in
-    p .1 .transition (enabled-apart (c .enum-told4 .given .1)) _ (p .0)
+    p .1 .transition (steps-apart (c .enum-told4 .given .1) refl) _ (p .0)
 
 returns-3 : tie.Need-returns-3
 returns-3 c = c .some-holds .ensures ∙ passes-some _ _ _ _ _ (premise-holds (c .before .before .before .before)) (c .before .enum-told .given .1)

@@ -1,20 +1,21 @@
 //! Files with random expressions.
 
-use crate::RANGES;
-
 pub struct Draft {
     random: u64,
+    pub ranges: [(i16, i16); 4],
     pub bytes: Vec<u8>,
 }
 
 impl Draft {
-    /// A file that has ranges so far.
-    pub fn new(seed: u64) -> Draft {
+    /// A file that has ranges so far; it has 2 to the bits states, at least 2 to the 14.
+    pub fn new(seed: u64, bits: u32) -> Draft {
+        let ranges = [(0, 31), (-16, 15), (0, 15), (0, (1 << (bits - 14)) - 1)];
         let mut draft = Draft {
             random: seed,
+            ranges,
             bytes: Vec::new(),
         };
-        for (low, high) in RANGES {
+        for (low, high) in ranges {
             draft.put(0x01, 0, low, high);
         }
         draft
@@ -59,7 +60,7 @@ impl Draft {
                 self.put(0x10, 0, value, 0);
             }
             1 => {
-                let variable = self.below(RANGES.len()) as u8;
+                let variable = self.below(self.ranges.len()) as u8;
                 self.put(0x11, variable, 0, 0);
             }
             _ if size == 2 || (size >= 4 && self.below(5) == 0) => {

@@ -17,8 +17,6 @@ use Rattle.parsing.specs.Kind.{formAt, signatureAt}
 use Rattle.parsing.specs.Kind.{number as numberSort}
 use Rattle.parsing.specs.Walk.{span}
 use Rattle.reading.specs.Interval.{combine}
-use Rattle.evaluating.specs.declared.expressions.Number.{Number}
-use Rattle.evaluating.specs.declared.expressions.Truth.{Truth}
 
 -- ---- parts
 -- the part of a file, or of a part, that begins at record `at`
@@ -40,6 +38,10 @@ indicatorOf p = cond p (pos 1) (pos 0)
 -- 23 and, 24 or, 25 implies, 26 iff
 unfoldable pub connectOf : ℕ → Bool → Bool → Bool
 connectOf kind p q = cond (eqb kind 0x23) (p && q) (cond (eqb kind 0x24) (p || q) (cond (eqb kind 0x25) (not p || q) (Bool·beq p q)))
+
+-- whether the left operand alone decides: a false one of "and" and of "implies", a true one of "or"
+unfoldable pub decidesOf : ℕ → Bool → Bool
+decidesOf kind p = cond (eqb kind 0x23) (not p) (cond (eqb kind 0x24) p (cond (eqb kind 0x25) (not p) false))
 
 -- 27 equal, 28 less, 29 at most
 unfoldable pub compareOf : ℕ → ℤ → ℤ → Bool
@@ -79,16 +81,6 @@ unfoldable mutual
   truth zero part state = false
   truth (suc levels) part state = truthBy levels (λ p. number levels p state) (λ p. truth levels p state) (formAt part 0) part
 
--- what the evaluators answer: the worth, and how many records the expression has, one for a constant or a variable
-unfoldable pub single : ℤ → Number
-single x = record { value = x; records = 1 }
-
-unfoldable pub numberAt : ℕ → List ℕ → List ℤ → Number
-numberAt levels part state = record { value = number levels part state; records = span levels part }
-
-unfoldable pub truthAt : ℕ → List ℕ → List ℤ → Truth
-truthAt levels part state = record { value = truth levels part state; records = span levels part }
-
 -- a truth expression of a file, from its first record on
 unfoldable pub holdsOf : List ℕ → ℕ → List ℤ → Bool
 holdsOf file at state = truth 16 (partAt file at) state
@@ -112,3 +104,8 @@ Fits (suc levels) want part state =
     RecordFits want part
     × (want ≡ numberSort → In (number (suc levels) part state) bounds)
     × OperandsFit (λ p. Fits levels (signatureAt part 0 .over) p state) levels part (signatureAt part 0 .operands)
+
+-- ---- a table of how many records each expression of a part has, by the record that it begins at
+pub record Spans (part table : List ℕ) : Type 0 where
+  pub enough : length part ≤ 8 * length table
+  pub right : (at levels want : ℕ) (state : List ℤ) → Fits levels want (partAt part at) state → getD table at 0 ≡ span levels (partAt part at)

@@ -1,10 +1,12 @@
 -- "A state gives every variable a value in its range." A state is the list of twelve values: a variable that the file lacks has the range 0..0, so its
 -- value is zero.
+use mathlib.Core.Path.{_≡_}
 use mathlib.Core.Bool.{cond}
 use mathlib.Core.List.{List, [], _∷_}
-use Prim.Native.Nat.{ℕ, _+_, _*_}
+use Prim.Native.Nat.{ℕ, _+_, _*_, _<_, _≤_}
 use lib.Dec.{ltb}
 use lib.IntN.{ℤ, pos}
+use lib.ListN.{getD}
 use lib.Signed.{_≤ℤ_}
 use Rattle.parsing.specs.Record.{value}
 use Rattle.parsing.specs.Place.{tabulate}
@@ -33,3 +35,8 @@ pub data Within : List ℤ → List ℤ → List ℤ → Type 0 where
 -- the states of a file
 abbrev pub State : List ℕ → ℕ → List ℤ → Type 0
 State file vars state = Within (lowsOf file vars) (highsOf file vars) state
+
+-- the variables from `vars` on have one value each, which the state has
+unfoldable pub Idle : ℕ → List ℤ → List ℤ → List ℤ → Type 0
+Idle vars lows highs state =
+    (i : ℕ) → vars ≤ i → i < 12 → (getD state i (pos 0) ≡ getD lows i (pos 0)) × (getD highs i (pos 0) ≡ getD state i (pos 0))

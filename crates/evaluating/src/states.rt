@@ -4,7 +4,7 @@ use integers::radix::value_at;
 ghost use mathlib.Core.Path.{_≡_};
 ghost use Prim.Native.Nat.{_≤_, _<_};
 ghost use lib.Signed.{_≤ℤ_};
-ghost use Rattle.evaluating.specs.State.{endsOf, lowsOf, highsOf, Ranges};
+ghost use Rattle.evaluating.specs.State.{endsOf, lowsOf, highsOf, Ranges, Idle};
 ghost use Rattle.evaluating.specs.Number.{sizeOf, countOf, stateOf, advanceOf};
 
 // The low (field 2) or high (field 4) ends of the ranges of a file's variables.
@@ -81,12 +81,15 @@ pub fn state_of(low: [i16; 12], high: [i16; 12], number: usize) -> [i16; 12]
     state
 }
 
-// The next state: the last variable moves on, and one at its high end starts anew. The last state is followed by the first.
-pub fn advance(low: [i16; 12], high: [i16; 12], state: [i16; 12]) -> [i16; 12]
+// The next state: the last variable moves on, and one at its high end starts anew. The last state is followed by the first. Variables from `vars` on,
+// which the file lacks, are passed over.
+pub fn advance(low: [i16; 12], high: [i16; 12], vars: usize, state: [i16; 12]) -> [i16; 12]
+    requires most { ⌜ vars ≤ 12 ⌝ }
+    requires idle { ⌜ Idle vars low high state ⌝ }
     ensures { λ r. ⌜ r ≡ advanceOf low high state ⌝ }
 {
     let mut next = state;
-    let mut i: usize = 12;
+    let mut i: usize = vars;
     while 0 < i {
         i -= 1;
         let v = next[i];

@@ -10,7 +10,7 @@ ghost use mathlib.Core.Bool.{true};
 ghost use Prim.Native.Nat.{_+_, _/_, _<_};
 ghost use lib.ListN.{length, set};
 ghost use Rattle.parsing.specs.Kind.{number as numberSort};
-ghost use Rattle.evaluating.specs.Expression.{partAt, Fits};
+ghost use Rattle.evaluating.specs.Expression.{partAt, Fits, Spans};
 ghost use Rattle.evaluating.specs.Transition.{assignmentAt, assignmentsFrom, inRangeOf, assignOf, stepOf, AssignmentsFit, TransitionFits};
 
 // A variable, the value that it is assigned, and the record behind the assignment.
@@ -55,23 +55,32 @@ fn with(low: [i16; 12], high: [i16; 12], state: [i16; 12], i: usize, x: i64) -> 
 }
 
 // The assignment at record `at`, worked out from the state.
-fn assignment_at(file: &[u8], at: usize, state: [i16; 12]) -> Assignment
-    requires { ⌜ Fits 16 numberSort (partAt (now file) (at + 1)) state ⌝ }
+fn assignment_at(file: &[u8], spans: &[u16], at: usize, state: [i16; 12]) -> Assignment
+    requires fits { ⌜ Fits 16 numberSort (partAt (now file) (at + 1)) state ⌝ }
+    requires spans { ⌜ Spans (now file) (now spans) ⌝ }
     ensures { λ r. ⌜ r ≡ assignmentAt (now (file .entry)) at state ⌝ }
 {
     let variable = byte_at(file, 8 * at + 1) as usize;
     let from = at + 1;
-    let found = number_at(&file[8 * from..], state, 16);
+    let value = number_at(&file[8 * from..], &spans[from..], state, 16);
     Assignment {
         variable,
-        value: found.value,
-        end: from + found.records,
+        value,
+        end: from + spans[from] as usize,
     }
 }
 
 // The assignments from record `first` on, each worked out from the state before any is made.
-fn assign(file: &[u8], first: usize, low: [i16; 12], high: [i16; 12], state: [i16; 12]) -> Assigned
-    requires { ⌜ AssignmentsFit (now file) (length (now file) / 8) first state ⌝ }
+fn assign(
+    file: &[u8],
+    spans: &[u16],
+    first: usize,
+    low: [i16; 12],
+    high: [i16; 12],
+    state: [i16; 12],
+) -> Assigned
+    requires spans { ⌜ Spans (now file) (now spans) ⌝ }
+    requires fits { ⌜ AssignmentsFit (now file) (length (now file) / 8) first state ⌝ }
     ensures { λ r. ⌜ r ≡ assignOf low high (assignmentsFrom (now (file .entry)) (length (now (file .entry)) / 8) first state) state ⌝ }
 {
     let mut next = state;
@@ -81,7 +90,7 @@ fn assign(file: &[u8], first: usize, low: [i16; 12], high: [i16; 12], state: [i1
         if !kind_is(file, 0x04, at) {
             return Assigned { fits: true, next };
         }
-        let a = assignment_at(file, at, state);
+        let a = assignment_at(file, spans, at, state);
         let i = a.variable;
         let x = a.value;
         if !in_range(low, high, i, x) {
@@ -99,20 +108,27 @@ fn assign(file: &[u8], first: usize, low: [i16; 12], high: [i16; 12], state: [i1
 }
 
 // The transition at record `at`.
-pub fn step(file: &[u8], at: usize, low: [i16; 12], high: [i16; 12], state: [i16; 12]) -> Stepped
-    requires { ⌜ TransitionFits (now file) at state ⌝ }
+pub fn step(
+    file: &[u8],
+    spans: &[u16],
+    at: usize,
+    low: [i16; 12],
+    high: [i16; 12],
+    state: [i16; 12],
+) -> Stepped
+    requires spans { ⌜ Spans (now file) (now spans) ⌝ }
+    requires fits { ⌜ TransitionFits (now file) at state ⌝ }
     ensures { λ r. ⌜ r ≡ stepOf low high (now (file .entry)) at state ⌝ }
 {
     let from = at + 1;
-    let guard = truth_at(&file[8 * from..], state, 16);
-    if !guard.value {
+    if !truth_at(&file[8 * from..], &spans[from..], state, 16) {
         return Stepped {
             guard: false,
             enabled: false,
             next: state,
         };
     }
-    let found = assign(file, from + guard.records, low, high, state);
+    let found = assign(file, spans, from + spans[from] as usize, low, high, state);
     let next = found.next;
     Stepped {
         guard: true,

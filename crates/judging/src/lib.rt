@@ -1,6 +1,7 @@
 // Judging a file: the check of every condition at every state, with its report, and the test of one condition at one state.
 use conditions::condition_at;
 use conditions::total;
+use evaluating::spans::spans_of;
 use evaluating::states::count;
 use evaluating::states::highs;
 use evaluating::states::lows;
@@ -68,7 +69,8 @@ fn tested(file: &[u8], outline: Outline, condition: usize, state: usize) -> Sing
     let condition = condition_at(file, outline, condition);
     let test = test_of(file, outline, nodes, transitions, condition);
     let s = state_of(low, high, state);
-    if passes(file, low, high, test, s) {
+    let spans = spans_of(file);
+    if passes(file, &spans, low, high, test, s) {
         Single::Holds
     } else {
         Single::Fails

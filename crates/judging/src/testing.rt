@@ -15,12 +15,12 @@ ghost use lib.ListN.{length, getD, take};
 ghost use Rattle.reading.specs.declared.Reading.{Reading};
 ghost use Rattle.reading.specs.Read.{readOf};
 ghost use Rattle.parsing.specs.Kind.{truth as truthSort};
-ghost use Rattle.evaluating.specs.Expression.{partAt, Fits};
+ghost use Rattle.evaluating.specs.Expression.{partAt, Fits, Spans};
 ghost use Rattle.evaluating.specs.State.{Within};
 ghost use Rattle.judging.specs.Diagram.{claimedAt, qAt, carries};
 ghost use Rattle.judging.specs.Condition.{Listed};
 ghost use Rattle.judging.specs.Testing.{marksOf, targetsOf, chosenOf, nodesOf, transitionsOf, preparedOf, testOf};
-ghost use Rattle.judging.specs.Testing.{someHolds, passesOf, TestFits};
+ghost use Rattle.judging.specs.Testing.{someHolds, concludesOf, passesOf, TestFits};
 
 // What a condition's premise must imply: that one of the targets is true; that a true guard goes with values in range; that a step leads to one of
 // the targets; that the transition is enabled.
@@ -199,7 +199,8 @@ pub(crate) fn test_of(
 }
 
 // Whether a truth at one of the places holds.
-fn some_holds(file: &[u8], places: [u16; 32], count: usize, state: [i16; 12]) -> bool
+fn some_holds(file: &[u8], spans: &[u16], places: [u16; 32], count: usize, state: [i16; 12]) -> bool
+    requires spans { ⌜ Spans (now file) (now spans) ⌝ }
     requires most { ⌜ count ≤ 32 ⌝ }
     requires fits { ⌜ ((i : ℕ) → i < count → Fits 16 truthSort (partAt (now file) (getD places i 0)) state) ⌝ }
     ensures { λ r. ⌜ r ≡ someHolds (now (file .entry)) (take count places) state ⌝ }
@@ -207,7 +208,7 @@ fn some_holds(file: &[u8], places: [u16; 32], count: usize, state: [i16; 12]) ->
     let mut i: usize = 0;
     while i < count {
         let at = places[i] as usize;
-        if holds(file, at, state) {
+        if holds(file, spans, at, state) {
             return true;
         }
         i += 1;
@@ -215,40 +216,59 @@ fn some_holds(file: &[u8], places: [u16; 32], count: usize, state: [i16; 12]) ->
     false
 }
 
-// Whether a condition holds at a state: its conclusion is looked at only where its premise is true.
-pub(crate) fn passes(
+// Whether what a condition's premise must imply is true at a state.
+pub(crate) fn concludes(
     file: &[u8],
+    spans: &[u16],
     low: [i16; 12],
     high: [i16; 12],
     test: Test,
     state: [i16; 12],
 ) -> bool
+    requires spans { ⌜ Spans (now file) (now spans) ⌝ }
     requires within { ⌜ Within low high state ⌝ }
     requires fits { ⌜ TestFits low high (now file) test ⌝ }
-    ensures { λ r. ⌜ r ≡ passesOf low high (now (file .entry)) test state ⌝ }
+    ensures { λ r. ⌜ r ≡ concludesOf low high (now (file .entry)) test (test .conclusion) state ⌝ }
 {
-    if !holds(file, test.premise, state) {
-        return true;
-    }
     let targets = test.targets;
     let conclusion = test.conclusion;
     match conclusion {
-        Conclusion::SomeTarget => some_holds(file, targets, test.count, state),
+        Conclusion::SomeTarget => some_holds(file, spans, targets, test.count, state),
         Conclusion::InRange => {
-            let s = step(file, test.transition, low, high, state);
+            let s = step(file, spans, test.transition, low, high, state);
             !s.guard | s.enabled
         }
         Conclusion::Reached => {
-            let s = step(file, test.transition, low, high, state);
+            let s = step(file, spans, test.transition, low, high, state);
             if !s.enabled {
                 return true;
             }
             let next = s.next;
-            some_holds(file, targets, test.count, next)
+            some_holds(file, spans, targets, test.count, next)
         }
         Conclusion::Enabled => {
-            let s = step(file, test.transition, low, high, state);
+            let s = step(file, spans, test.transition, low, high, state);
             s.enabled
         }
     }
+}
+
+// Whether a condition holds at a state: its conclusion is looked at only where its premise is true.
+pub(crate) fn passes(
+    file: &[u8],
+    spans: &[u16],
+    low: [i16; 12],
+    high: [i16; 12],
+    test: Test,
+    state: [i16; 12],
+) -> bool
+    requires spans { ⌜ Spans (now file) (now spans) ⌝ }
+    requires within { ⌜ Within low high state ⌝ }
+    requires fits { ⌜ TestFits low high (now file) test ⌝ }
+    ensures { λ r. ⌜ r ≡ passesOf low high (now (file .entry)) test state ⌝ }
+{
+    if !holds(file, spans, test.premise, state) {
+        return true;
+    }
+    concludes(file, spans, low, high, test, state)
 }

@@ -3,8 +3,10 @@ use crate::conditions::Condition;
 use crate::conditions::condition_at;
 use crate::conditions::total;
 use crate::report::Verdict;
-use crate::testing::passes;
+use crate::testing::concludes;
 use crate::testing::test_of;
+use evaluating::expressions::holds;
+use evaluating::spans::spans_of;
 use evaluating::states::advance;
 use evaluating::states::count;
 use evaluating::states::highs;
@@ -15,7 +17,7 @@ use parsing::sections::transition_places;
 use reading::Reading;
 use reading::read;
 ghost use mathlib.Core.Path.{_≡_};
-ghost use Prim.Native.Nat.{_≤_, _<_};
+ghost use Prim.Native.Nat.{_≤_};
 ghost use Rattle.reading.specs.declared.Reading.{Reading};
 ghost use Rattle.reading.specs.Read.{readOf};
 ghost use Rattle.judging.specs.Condition.{nodeNumber, transitionNumber};
@@ -97,6 +99,7 @@ fn judge(file: &[u8], outline: Outline) -> Verdict
     requires { ⌜ readOf (now file) ≡ Reading.Readable outline ⌝ }
     ensures { λ r. ⌜ r ≡ judgedOf (now (file .entry)) outline ⌝ }
 {
+    let spans = spans_of(file);
     let low = lows(file, outline.vars);
     let high = highs(file, outline.vars);
     let states = count(low, high);
@@ -113,13 +116,17 @@ fn judge(file: &[u8], outline: Outline) -> Verdict
     'conditions: while number < total {
         let condition = condition_at(file, outline, number);
         let test = test_of(file, outline, nodes, transitions, condition);
+        let premise = test.premise;
         state = low;
         let mut n: usize = 0;
         'states: while n < states {
-            if !passes(file, low, high, test, state) {
-                break 'conditions;
+            // Worked out before the test, which then needn't wait for it.
+            let next = advance(low, high, outline.vars, state);
+            if holds(file, &spans, premise, state) {
+                if !concludes(file, &spans, low, high, test, state) {
+                    break 'conditions;
+                }
             }
-            let next = advance(low, high, state);
             state = next;
             n += 1;
         }

@@ -1,51 +1,35 @@
 //! Random files: drafts that keep to the format but for chosen twists, diagrams that establish
 //! their claims or nearly do, sample files, and all of them damaged; splices, random records, random
-//! bytes. What comes out depends on the seed alone.
-
-use crate::model;
+//! bytes. What comes out depends on the seed and the samples alone.
 
 mod diagrams;
 
-type Record = [u8; 8];
+pub type Record = [u8; 8];
 /// Records of an expression, in prefix order.
-type Code = Vec<Record>;
+pub type Code = Vec<Record>;
 
 const BOUND: i64 = 1_000_000;
 const STATES: i64 = 1_048_576;
 /// As many records as a file may have.
 pub const RECORDS: usize = 4096;
 
-const KINDS: [u8; 23] = [
+pub const KINDS: [u8; 23] = [
     0x01, 0x02, 0x03, 0x04, 0x05, 0x06, 0x07, 0x10, 0x11, 0x12, 0x13, 0x14, 0x15, 0x20, 0x21, 0x22,
     0x23, 0x24, 0x25, 0x26, 0x27, 0x28, 0x29,
 ];
 /// Bytes that are no kind, most of them next to one.
 const NO_KINDS: [u8; 8] = [0x00, 0x08, 0x0f, 0x16, 0x1f, 0x2a, 0x81, 0xff];
 
-const SAMPLES: [&[u8]; 11] = [
-    include_bytes!("../seeds/mux-sem-partition.vd"),
-    include_bytes!("../seeds/pages-1-2.vd"),
-    include_bytes!("../seeds/pages-1-2-parts.vd"),
-    include_bytes!("../seeds/pages-1-2-phases.vd"),
-    include_bytes!("../seeds/pages-3-3.vd"),
-    include_bytes!("../seeds/pages-3-3-no-edge.vd"),
-    include_bytes!("../seeds/pages-3-3-parts.vd"),
-    include_bytes!("../seeds/pages-3-3-phases.vd"),
-    include_bytes!("../seeds/pages-3-3-swapped.vd"),
-    include_bytes!("../seeds/pages-6-3.vd"),
-    include_bytes!("../seeds/pages-6-3-parts.vd"),
-];
-
 pub fn record(kind: u8, a: u8, b: i16, c: i16, d: u8) -> Record {
     let ([b0, b1], [c0, c1]) = (b.to_le_bytes(), c.to_le_bytes());
     [kind, a, b0, b1, c0, c1, d, 0]
 }
 
-fn plain(kind: u8) -> Record {
+pub fn plain(kind: u8) -> Record {
     record(kind, 0, 0, 0, 0)
 }
 
-fn constant(value: i16) -> Record {
+pub fn constant(value: i16) -> Record {
     record(0x10, 0, value, 0, 0)
 }
 
@@ -110,13 +94,13 @@ struct Grower<'a> {
     limits: usize,
 }
 
-type Interval = (i64, i64);
+pub type Interval = (i64, i64);
 
 fn in_bounds((low, high): Interval) -> bool {
     low >= -BOUND && high <= BOUND
 }
 
-fn combine(kind: u8, left: Interval, right: Interval) -> Interval {
+pub fn combine(kind: u8, left: Interval, right: Interval) -> Interval {
     match kind {
         0x12 => (left.0 + right.0, left.1 + right.1),
         0x13 => (left.0 - right.1, left.1 - right.0),
@@ -133,7 +117,7 @@ fn combine(kind: u8, left: Interval, right: Interval) -> Interval {
 }
 
 /// A kind, then its operands.
-fn join(kind: u8, operands: &[&Code]) -> Code {
+pub fn join(kind: u8, operands: &[&Code]) -> Code {
     let mut code = vec![plain(kind)];
     for operand in operands {
         code.extend_from_slice(operand);
@@ -142,7 +126,7 @@ fn join(kind: u8, operands: &[&Code]) -> Code {
 }
 
 /// A number with one value; needs up to three levels.
-fn value(value: i64) -> Code {
+pub fn value(value: i64) -> Code {
     match i16::try_from(value) {
         Ok(value) => vec![constant(value)],
         Err(_) => vec![
@@ -381,34 +365,35 @@ impl Twists {
     }
 }
 
-const INVARIANCE: u8 = 1;
-const WAIT_FOR: u8 = 2;
-const CHAIN: u8 = 3;
+pub const INVARIANCE: u8 = 1;
+pub const WAIT_FOR: u8 = 2;
+pub const CHAIN: u8 = 3;
 
-struct Transition {
-    just: bool,
-    guard: Code,
-    assignments: Vec<(u8, Code)>,
+#[derive(Clone)]
+pub struct Transition {
+    pub just: bool,
+    pub guard: Code,
+    pub assignments: Vec<(u8, Code)>,
 }
 
 #[derive(Clone, Copy, PartialEq)]
-struct Edge {
-    transition: usize,
-    from: usize,
-    to: usize,
-    double: bool,
+pub struct Edge {
+    pub transition: usize,
+    pub from: usize,
+    pub to: usize,
+    pub double: bool,
 }
 
 /// A file's parts.
-struct Draft {
-    ranges: Vec<(i16, i16)>,
-    start: Code,
-    transitions: Vec<Transition>,
-    property: u8,
-    b: i16,
-    truths: Vec<Code>,
-    nodes: Vec<Code>,
-    edges: Vec<Edge>,
+pub struct Draft {
+    pub ranges: Vec<(i16, i16)>,
+    pub start: Code,
+    pub transitions: Vec<Transition>,
+    pub property: u8,
+    pub b: i16,
+    pub truths: Vec<Code>,
+    pub nodes: Vec<Code>,
+    pub edges: Vec<Edge>,
 }
 
 /// How many parts a draft is to have, and its property.
@@ -440,6 +425,9 @@ impl Plan {
         let mut truths = if property == CHAIN { 2 } else { 1 };
         if property == WAIT_FOR {
             b = nodes as i16;
+            if twists.has(Twist::Nodes) && random.percent(25) {
+                b = 32;
+            }
             if twists.has(Twist::Phases) {
                 b = random.pick(&[-32768, -32, -1, 0, 1, 1, 32, 32, 33, 257, 288, 32767]);
             }
@@ -542,7 +530,7 @@ impl Draft {
         draft
     }
 
-    fn records(&self) -> Vec<Record> {
+    pub fn records(&self) -> Vec<Record> {
         let mut records: Vec<Record> = self
             .ranges
             .iter()
@@ -808,8 +796,15 @@ fn limit_ranges(random: &mut Random) -> Vec<(i16, i16)> {
 
 // ------------------------------------------------------------------------------ files
 
+/// Files that random ones are made from.
+pub struct Samples {
+    pub examples: Vec<Vec<u8>>,
+    /// At limits and one past them.
+    pub limits: Vec<Vec<u8>>,
+}
+
 /// A random file.
-pub fn file(random: &mut Random) -> Vec<u8> {
+pub fn file(random: &mut Random, samples: &Samples) -> Vec<u8> {
     match random.below(100) {
         0 => {
             let count = random.below(100);
@@ -817,13 +812,21 @@ pub fn file(random: &mut Random) -> Vec<u8> {
         }
         1 | 2 => random_records(random).concat(),
         3..=5 => {
-            let (head, tail) = (whole(random), whole(random));
+            let (head, tail) = (whole(random, samples), whole(random, samples));
             splice(random, &head, &tail).concat()
         }
-        6..=39 => Draft::random(random).records().concat(),
+        6..=39 => {
+            let mut file = Draft::random(random).records().concat();
+            if file.len() == 8 * RECORDS && random.percent(30) {
+                // Part of a record too many.
+                let count = 1 + random.below(7);
+                file.extend(random.bytes(count));
+            }
+            file
+        }
         40..=69 => diagrams::diagram(random).concat(),
         70..=91 => {
-            let mut file = whole(random).concat();
+            let mut file = whole(random, samples).concat();
             for _ in 0..random.pick(&[1, 1, 1, 2, 3]) {
                 let at = any_record(random, &file);
                 damage(random, &mut file, at);
@@ -832,9 +835,13 @@ pub fn file(random: &mut Random) -> Vec<u8> {
         }
         _ => {
             // Damage at a refusal's place shows which of two refusals at one record comes first.
-            let mut file = Draft::random(random).records().concat();
-            let at = model::read(&file).place;
-            damage(random, &mut file, at);
+            let mut file = match random.below(5) {
+                0 => samples.limits[random.below(samples.limits.len())].clone(),
+                _ => Draft::random(random).records().concat(),
+            };
+            if let Err(refusal) = independent::read(&file) {
+                damage(random, &mut file, refusal.place as usize);
+            }
             file
         }
     }
@@ -869,16 +876,17 @@ pub fn buffer(random: &mut Random) -> (Vec<u8>, usize) {
 }
 
 /// The records of a draft, a diagram or a sample.
-fn whole(random: &mut Random) -> Vec<Record> {
-    match random.below(10) {
-        0 => random
-            .pick(&SAMPLES)
-            .chunks_exact(8)
-            .map(|bytes| bytes.try_into().unwrap())
-            .collect(),
-        1..=3 => diagrams::diagram(random),
-        _ => Draft::random(random).records(),
-    }
+fn whole(random: &mut Random, samples: &Samples) -> Vec<Record> {
+    let sample = match random.below(20) {
+        0 | 1 => &samples.examples,
+        2 => &samples.limits,
+        3..=8 => return diagrams::diagram(random),
+        _ => return Draft::random(random).records(),
+    };
+    sample[random.below(sample.len())]
+        .chunks_exact(8)
+        .map(|bytes| bytes.try_into().expect("8 bytes"))
+        .collect()
 }
 
 /// The head of one file and the tail of another: cut anywhere, or before records of one kind.
@@ -979,12 +987,12 @@ fn damage(random: &mut Random, file: &mut Vec<u8>, record: usize) {
             file[byte] = field_byte(random, file[byte]);
         }
         4 | 5 => {
-            let kinds = if random.percent(85) {
-                &KINDS[..]
-            } else {
-                &NO_KINDS[..]
+            file[at] = match random.below(8) {
+                0 => random.pick(&NO_KINDS),
+                1 => file[at].wrapping_add(1),
+                2 => file[at].wrapping_sub(1),
+                _ => random.pick(&KINDS),
             };
-            file[at] = random.pick(kinds);
         }
         6 => {
             file.drain(at..at + run);

@@ -1,330 +1,222 @@
-//! `differential [CASES] [SEED]` reads, checks and tests random files and the examples of document
-//! 01 with the library and with the model, counts their starting states, and tells where they differ.
+//! `differential [--until-difference] [CASES] [SEED]` compares the proved checker with the
+//! independent one on files at the limits, the examples, CASES random files, and files of very
+//! many states. With `--until-difference` it ends at the first difference and asserts nothing else.
 
-use differential::generate::{self, Random};
-use differential::model::{self, Model, CHAIN, INVARIANCE, WAIT_FOR};
-use differential::{fixed, library, Answer, Starting, Tested, Verdict};
-use std::collections::HashSet;
-use std::process::ExitCode;
+use differential::compare::{Answers, Case, Facts};
+use differential::generate::{self, Random, Samples};
+use differential::tally::{self, Tally};
+use differential::{large, limits, samples};
+use std::panic::{catch_unwind, AssertUnwindSafe};
+use std::process::{exit, ExitCode};
 
 const CASES: u64 = 300_000;
 const SEED: u64 = 0x5eed;
-/// Every answer must come up this often in CASES cases.
-const LEAST: u64 = 100;
-/// Starting states are counted in files that have at most this many states.
-const STATES: usize = 4096;
-/// Files are checked that have at most this many tests: conditions times states.
-const TESTS: usize = 100_000;
+/// A line tells of the progress after so many files.
+const PROGRESS: u64 = 100_000;
+/// An example is checked as a whole that has at most so many tests.
+const EXAMPLE_TESTS: usize = 3_000_000;
 /// So many differing files are shown.
 const SHOWN: usize = 5;
 /// Shrinking such a file reads at most this many bytes.
 const WORK: usize = 50_000_000;
 /// The longest run of records that shrinking tries at every record.
 const SHORT: usize = 16;
-/// The numbers that reading answers, and those of broken conditions with the properties that have
-/// such conditions.
-const NUMBERS: [usize; 10] = [0, 2, 3, 4, 5, 6, 7, 8, 9, 10];
-const CONDITIONS: [(usize, &[u8]); 6] = [
-    (13, &[INVARIANCE]),
-    (14, &[WAIT_FOR, CHAIN]),
-    (15, &[INVARIANCE, WAIT_FOR, CHAIN]),
-    (16, &[INVARIANCE, WAIT_FOR, CHAIN]),
-    (17, &[INVARIANCE, WAIT_FOR, CHAIN]),
-    (18, &[CHAIN]),
-];
 
-/// A file and what is asked of it.
-struct Case {
-    file: Vec<u8>,
-    /// The report buffer, and behind it bytes that must stay as they are.
-    bytes: Vec<u8>,
-    room: usize,
-    /// Conditions and states of single tests.
-    singles: Vec<(usize, usize)>,
-}
-
-#[derive(Debug, PartialEq)]
-struct Answers {
-    read: Answer,
-    starting: Option<Starting>,
-    /// The verdict, and the bytes afterwards.
-    check: Option<(Verdict, Vec<u8>)>,
-    singles: Vec<Tested>,
-}
-
-/// The random cases that the model reads with one number.
-#[derive(Clone, Default)]
-struct Bulk {
+struct Options {
+    until_difference: bool,
     cases: u64,
-    differing: u64,
-    places: HashSet<usize>,
-    /// Those whose starting states were counted, and those of them where some states are starting
-    /// states and some are not.
-    counted: u64,
-    mixed: u64,
+    seed: u64,
 }
 
-/// What the model answers in the random cases.
-struct Tally {
-    /// By the number that reading answers.
-    bulks: Vec<Bulk>,
-    /// Checks by number and property; 0 for the property of an unreadable file, and for number 1.
-    checks: [[u64; 4]; 19],
-    /// Single tests that are refused, by number.
-    refused: [u64; 19],
-    /// Single tests that fail and that hold, by number and property of the condition.
-    tested: [[[u64; 4]; 19]; 2],
+fn options() -> Option<Options> {
+    let mut arguments: Vec<String> = std::env::args().skip(1).collect();
+    let before = arguments.len();
+    arguments.retain(|argument| argument != "--until-difference");
+    let until_difference = arguments.len() < before;
+    let mut numbers = arguments.iter().map(|text| text.parse().ok());
+    let cases = numbers.next().unwrap_or(Some(CASES))?;
+    let seed = numbers.next().unwrap_or(Some(SEED))?;
+    numbers.next().is_none().then_some(Options {
+        until_difference,
+        cases,
+        seed,
+    })
 }
 
 fn main() -> ExitCode {
-    let mut arguments = std::env::args().skip(1).map(|text| text.parse::<u64>());
-    let (cases, seed) = match (arguments.next(), arguments.next(), arguments.next()) {
-        (None, None, None) => (CASES, SEED),
-        (Some(Ok(cases)), None, None) => (cases, SEED),
-        (Some(Ok(cases)), Some(Ok(seed)), None) => (cases, seed),
-        _ => {
-            eprintln!("differential [CASES] [SEED]");
+    let options = match options() {
+        Some(options) => options,
+        None => {
+            eprintln!("differential [--until-difference] [CASES] [SEED]");
             return ExitCode::from(2);
         }
     };
-
-    differential::announce();
-    println!("{cases} cases of seed {seed}");
-    let tally = random_cases(cases, seed);
-    print(&tally);
-
-    let mut failures = Vec::new();
-    let mut tests = 0;
-    let mut test = |name: String, passes: bool| {
-        tests += 1;
-        if !passes {
-            failures.push(name);
-        }
+    println!("seed {}, {} random files", options.seed, options.cases);
+    let mut run = Run {
+        options,
+        files: 0,
+        shown: 0,
+        tests: Vec::new(),
     };
-    let least = cases * LEAST / CASES;
-    for number in NUMBERS {
-        let bulk = &tally.bulks[number];
-        let name = format!("random cases of number {number}, at least {least}");
-        test(name, bulk.differing == 0 && bulk.cases >= least);
-        let name = format!("random checks of number {number}, at least {least}");
-        let of_all = tally.checks[number].iter().sum::<u64>();
-        test(name, of_all >= least);
-        if number > 0 {
-            let name = format!("random single tests of number {number}, at least {least}");
-            test(name, tally.refused[number] >= least);
-        }
+    run.limits();
+    run.examples();
+    let tally = run.random();
+    run.large();
+    if run.options.until_difference {
+        println!("no difference in {} files", run.files);
+        return ExitCode::SUCCESS;
     }
-    let name = format!("random cases where some states are starting states, at least {least}");
-    test(name, tally.bulks[0].mixed >= least);
-    let name = format!("random checks of number 1, at least {least}");
-    test(name, tally.checks[1][0] >= least);
-    for property in [INVARIANCE, WAIT_FOR, CHAIN] {
-        let name = format!("random checks that accept property {property}, at least {least}");
-        test(name, tally.checks[0][usize::from(property)] >= least);
+    tally.print();
+    if run.options.cases >= tally::FILES {
+        run.tests.extend(tally.tests(run.options.cases));
+    } else {
+        println!("what came up is asserted from {} files on", tally::FILES);
     }
-    for number in [11, 12] {
-        let name = format!("random single tests of number {number}, at least {least}");
-        test(name, tally.refused[number] >= least);
-    }
-    for (number, properties) in CONDITIONS {
-        let often = |counts: &[u64; 4]| {
-            let mut counts = properties.iter().map(|&of| counts[usize::from(of)]);
-            counts.all(|count| count >= least)
-        };
-        let name = format!("random checks of number {number} by property, at least {least}");
-        test(name, often(&tally.checks[number]));
-        for (counts, what) in tally.tested.iter().zip(["fail", "hold"]) {
-            let name = format!(
-                "random single tests of {number} by property that {what}, at least {least}"
-            );
-            test(name, often(&counts[number]));
-        }
-    }
-
-    for (name, file, expected) in fixed::cases() {
-        let (found, modelled) = (library::read(&file), model::read(&file));
-        if found != expected || modelled != expected {
-            println!("{name}: expected {expected:?}");
-            println!("  library  {found:?}\n  model    {modelled:?}");
-        }
-        test(name.to_string(), found == expected && modelled == expected);
-    }
-
-    for name in &failures {
-        println!("failed: {name}");
-    }
-    println!(
-        "{} passed, {} failed",
-        tests - failures.len(),
-        failures.len()
-    );
-    ExitCode::from(!failures.is_empty() as u8)
+    run.end()
 }
 
-fn print(tally: &Tally) {
-    println!("number   cases  places  differing");
-    for number in NUMBERS {
-        let bulk = &tally.bulks[number];
-        println!(
-            "{number:6} {:7} {:7} {:10}",
-            bulk.cases,
-            bulk.places.len(),
-            bulk.differing
-        );
-    }
-    let Bulk { counted, mixed, .. } = tally.bulks[0];
-    println!("starting states counted in {counted} files, in {mixed} of them neither none nor all");
-    println!("checks      none  invariance  wait-for   chain");
-    for (number, counts) in tally.checks.iter().enumerate() {
-        let [none, invariance, wait_for, chain] = counts;
-        println!("{number:6} {none:9} {invariance:11} {wait_for:9} {chain:7}");
-    }
-    println!("single tests, refused");
-    for (number, count) in tally
-        .refused
-        .iter()
-        .enumerate()
-        .filter(|(_, &count)| count > 0)
-    {
-        println!("{number:6} {count:9}");
-    }
-    for (counts, what) in tally.tested.iter().zip(["fail", "hold"]) {
-        println!("that {what}       invariance  wait-for   chain");
-        for (number, _) in CONDITIONS {
-            let [_, invariance, wait_for, chain] = counts[number];
-            println!("{number:6} {invariance:21} {wait_for:9} {chain:7}");
-        }
-    }
+struct Run {
+    options: Options,
+    /// How many files were compared.
+    files: u64,
+    shown: usize,
+    tests: Vec<(String, bool)>,
 }
 
-/// Asks about random files, and shows the first that are answered differently.
-fn random_cases(cases: u64, seed: u64) -> Tally {
-    let mut tally = Tally {
-        bulks: vec![Bulk::default(); 11],
-        checks: [[0; 4]; 19],
-        refused: [0; 19],
-        tested: [[[0; 4]; 19]; 2],
-    };
-    let mut shown = 0;
-    for number in 0..cases {
-        let random = &mut Random::new(seed, number);
-        let file = generate::file(random);
-        let model = Model::new(&file);
-        let (bytes, room) = generate::buffer(random);
-        let mut case = Case {
-            file,
-            bytes,
-            room,
-            singles: Vec::new(),
+/// A case with what the independent implementation finds.
+struct Asked {
+    case: Case,
+    facts: Facts,
+    answers: Answers,
+}
+
+impl Run {
+    /// The limits, read as they must be.
+    fn limits(&mut self) {
+        for (number, limit) in limits::cases().into_iter().enumerate() {
+            let random = &mut Random::new(0, number as u64);
+            let asked = self.compare(&limit.name, || asked(random, limit.file, None));
+            let as_expected = asked.map(|Asked { facts, .. }| {
+                let refusal = facts.reading.err();
+                refusal.map(|refusal| (refusal.number, refusal.place)) == limit.refusal
+            });
+            self.test(limit.name, as_expected == Some(true));
+        }
+    }
+
+    fn examples(&mut self) {
+        for (name, file) in samples() {
+            let random = &mut Random::new(0, 0);
+            let asked = self.compare(&name, || asked(random, file, Some(EXAMPLE_TESTS)));
+            let same = asked.is_some();
+            self.test(format!("example {name}"), same);
+        }
+    }
+
+    fn random(&mut self) -> Tally {
+        let mut tally = Tally::default();
+        let samples = Samples {
+            examples: samples().into_iter().map(|(_, file)| file).collect(),
+            limits: limits::cases()
+                .into_iter()
+                .map(|limit| limit.file)
+                .collect(),
         };
-        let mut modelled = case.model_answers(&model);
-        case.singles = single_tests(random, &model, &modelled);
-        modelled.singles = case.model_singles(&model);
-        tally.count(&case, &model, &modelled);
-        if case.library_answers(&modelled) != modelled {
-            tally.bulks[modelled.read.number].differing += 1;
-            if shown < SHOWN {
-                shown += 1;
-                show(number, &shrink(case));
+        let Options { cases, seed, .. } = self.options;
+        let mut differing = 0;
+        for number in 0..cases {
+            let asked = self.compare(&format!("random file {number}"), || {
+                let random = &mut Random::new(seed, number);
+                let file = generate::file(random, &samples);
+                asked(random, file, None)
+            });
+            match asked {
+                Some(asked) => tally.count(&asked.case, &asked.facts, &asked.answers),
+                None => differing += 1,
+            }
+            if (number + 1) % PROGRESS == 0 {
+                eprintln!("{} files, {differing} differ", number + 1);
             }
         }
+        self.test(format!("{cases} random files"), differing == 0);
+        tally
     }
-    tally
+
+    fn large(&mut self) {
+        for large in large::cases() {
+            let random = &mut Random::new(0, 0);
+            let asked = self.compare(large.name, || asked(random, large.file, Some(usize::MAX)));
+            let answer = asked.and_then(|Asked { answers, .. }| answers.check);
+            let as_expected =
+                answer.map(|(verdict, _)| (verdict.number, verdict.at) == (large.number, large.at));
+            self.test(large.name.to_string(), as_expected == Some(true));
+        }
+    }
+
+    fn test(&mut self, name: String, passes: bool) {
+        self.tests.push((name, passes));
+    }
+
+    /// Compares what is asked, and gives it back if the answers are the same. A panic of the
+    /// independent implementation is a difference.
+    fn compare(&mut self, name: &str, ask: impl FnOnce() -> Asked) -> Option<Asked> {
+        let asked = catch_unwind(AssertUnwindSafe(ask)).ok();
+        let same = match &asked {
+            Some(asked) => asked.case.proved() == asked.answers,
+            None => false,
+        };
+        if !same && self.options.until_difference {
+            println!("difference after {} files: {name}", self.files);
+            exit(1);
+        }
+        if !same && self.shown < SHOWN {
+            self.shown += 1;
+            match &asked {
+                Some(asked) => show(name, &shrink(&asked.case)),
+                None => println!("{name}: the independent implementation panics"),
+            }
+        }
+        self.files += 1;
+        asked.filter(|_| same)
+    }
+
+    fn end(self) -> ExitCode {
+        let failed = self.tests.iter().filter(|(_, passes)| !passes);
+        for (name, _) in failed.clone() {
+            println!("failed: {name}");
+        }
+        let failed = failed.count();
+        println!("{} passed, {failed} failed", self.tests.len() - failed);
+        ExitCode::from(u8::from(failed > 0))
+    }
 }
 
-/// Conditions and states for single tests; one condition is the broken one, if there is such.
-fn single_tests(random: &mut Random, model: &Model, answers: &Answers) -> Vec<(usize, usize)> {
-    let (tests, (conditions, states)) = match model.sizes() {
-        Some(sizes) => (3, sizes),
-        None => (1, (100, 100)),
-    };
-    let mut singles: Vec<(usize, usize)> = (0..tests)
-        .map(|_| {
-            let condition = generate::number(random, conditions);
-            (condition, generate::number(random, states))
-        })
-        .collect();
-    match &answers.check {
-        Some((verdict, _)) if verdict.number >= 13 => singles[0].0 = verdict.at as usize,
+/// Asks about a file, and the independent implementation answers. If there are at most so many
+/// tests, the check is sure to be made, with room for the report.
+fn asked(random: &mut Random, file: Vec<u8>, sure: Option<usize>) -> Asked {
+    let facts = Facts::of(&file);
+    let mut case = Case::random(random, file, &facts);
+    if sure.map_or(false, |most| facts.tests() <= most) {
+        case.check = true;
+        (case.bytes, case.room) = (vec![0xa5; 64], 40);
+    }
+    let check = case.checked(independent::check);
+    // One of the single tests is of the broken condition, if there is one.
+    match &check {
+        Some((verdict, _)) if verdict.number >= 13 => case.singles[0].0 = verdict.at as usize,
         _ => (),
     }
-    singles
-}
-
-impl Tally {
-    fn count(&mut self, case: &Case, model: &Model, answers: &Answers) {
-        let bulk = &mut self.bulks[answers.read.number];
-        bulk.cases += 1;
-        bulk.places.insert(answers.read.place);
-        if let Some(found) = answers.starting {
-            bulk.counted += 1;
-            bulk.mixed += u64::from(0 < found.starting && found.starting < found.states);
-        }
-        let property = usize::from(model.property().unwrap_or(0));
-        if let Some((verdict, _)) = &answers.check {
-            let property = if verdict.number == 1 { 0 } else { property };
-            self.checks[usize::from(verdict.number)][property] += 1;
-        }
-        for (&(condition, _), tested) in case.singles.iter().zip(&answers.singles) {
-            match model.refusal_of(condition) {
-                Some(number) if tested.number == 0 => {
-                    let counts = &mut self.tested[usize::from(tested.holds)];
-                    counts[usize::from(number)][property] += 1;
-                }
-                _ => self.refused[tested.number] += 1,
-            }
-        }
-    }
-}
-
-impl Case {
-    fn model_answers(&self, model: &Model) -> Answers {
-        let (conditions, states) = model.sizes().unwrap_or((0, 0));
-        let check = (conditions * states <= TESTS).then(|| {
-            let verdict = model.check(self.room);
-            let mut bytes = self.bytes.clone();
-            model::report(&verdict, &mut bytes);
-            (verdict, bytes)
-        });
-        Answers {
-            read: model.answer,
-            starting: model.starting_states(STATES),
-            check,
-            singles: self.model_singles(model),
-        }
-    }
-
-    fn model_singles(&self, model: &Model) -> Vec<Tested> {
-        let single = |&(condition, state): &(usize, usize)| model.single(condition, state);
-        self.singles.iter().map(single).collect()
-    }
-
-    /// What the library answers to what the model has answered.
-    fn library_answers(&self, modelled: &Answers) -> Answers {
-        let file = &self.file[..];
-        let starting = &modelled.starting;
-        let check = modelled.check.as_ref().map(|_| {
-            let mut bytes = self.bytes.clone();
-            let verdict = library::check(file, &mut bytes[..self.room]);
-            (verdict, bytes)
-        });
-        let single = |&(condition, state): &(usize, usize)| library::single(file, condition, state);
-        Answers {
-            read: library::read(file),
-            starting: starting.map(|_| library::starting_states(file)),
-            check,
-            singles: self.singles.iter().map(single).collect(),
-        }
-    }
-
-    fn differs(&self) -> bool {
-        let modelled = self.model_answers(&Model::new(&self.file));
-        self.library_answers(&modelled) != modelled
+    let singles = case.tested(independent::single);
+    Asked {
+        case,
+        facts,
+        answers: Answers { check, singles },
     }
 }
 
 /// Deletes runs of records while the answers still differ: long runs, then ever shorter ones.
-fn shrink(mut case: Case) -> Case {
+fn shrink(case: &Case) -> Case {
+    let mut case = case.clone();
     let mut work = WORK;
     let mut run = (case.file.len() / 8).max(1);
     while run > 0 {
@@ -334,7 +226,7 @@ fn shrink(mut case: Case) -> Case {
             work -= case.file.len();
             let file = case.file.clone();
             case.file.drain(at..file.len().min(at + 8 * run));
-            if !case.differs() {
+            if !still_differs(&case) {
                 case.file = file;
                 // Long runs next to each other; of short ones all, for one may be an expression.
                 at += 8 * if run > SHORT { run } else { 1 };
@@ -348,17 +240,21 @@ fn shrink(mut case: Case) -> Case {
     case
 }
 
-fn show(number: u64, case: &Case) {
-    println!(
-        "case {number} differs, shrunk to {} bytes:",
-        case.file.len()
-    );
+fn still_differs(case: &Case) -> bool {
+    let differs = AssertUnwindSafe(|| {
+        let short = Facts::of(&case.file).tests() <= differential::compare::TESTS;
+        (short || !case.check) && case.differs()
+    });
+    catch_unwind(differs).unwrap_or(false)
+}
+
+fn show(name: &str, case: &Case) {
+    println!("{name} differs, shrunk to {} bytes:", case.file.len());
     for record in case.file.chunks(8) {
         let digits: String = record.iter().map(|byte| format!("{byte:02x}")).collect();
         print!(" {digits}");
     }
     println!("\n  room {}, single tests {:?}", case.room, case.singles);
-    let modelled = case.model_answers(&Model::new(&case.file));
-    let found = case.library_answers(&modelled);
-    println!("  library  {found:?}\n  model    {modelled:?}");
+    println!("  proved       {:?}", case.proved());
+    println!("  independent  {:?}", case.independent());
 }

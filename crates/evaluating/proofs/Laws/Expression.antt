@@ -53,7 +53,7 @@ fits-small zero part state h = absurd h
 fits-small (suc levels) part state h = h .1 refl
 
 -- ---- its records
-operands-most : (f : Form) → signatureOf f .operands ≤ 2
+pub operands-most : (f : Form) → signatureOf f .operands ≤ 2
 unfolding signatureOf
 operands-most Constant = omega arith
 operands-most Variable = omega arith

@@ -6,6 +6,7 @@
 --     within-ranges                         where there is a state, no range is empty
 --     within-set                            a variable may take any value of its range
 --     state-idle                            a variable that the file lacks is 0 in every state
+--     states-idle                           beyond a file's variables every state is idle
 -- Assumes nothing.
 use mathlib.Core.Path.{_≡_, refl, sym, ap, _∙_}
 use mathlib.Core.Bool.{cond}
@@ -20,7 +21,7 @@ use lib.Signed.{_≤ℤ_, ≤ℤ-refl}
 use Rattle.integers.proofs.Laws.Parts.{by-test, ≤ℤ-trans, ≤ℤ-antisym}
 use Rattle.parsing.specs.Record.{value, valueB, valueC}
 use Rattle.parsing.proofs.Laws.Place.{length-tabulate, getD-tabulate}
-use Rattle.evaluating.specs.State.{endsOf, lowsOf, highsOf, Ranges, Within, State}
+use Rattle.evaluating.specs.State.{endsOf, lowsOf, highsOf, Ranges, Within, State, Idle}
 use Rattle.evaluating.specs.State.Ranges.{none as no-ranges, more as more-ranges}
 use Rattle.evaluating.specs.State.Within.{none as no-values, more as more-values}
 
@@ -111,3 +112,9 @@ pub state-idle : (file : List ℕ) (vars : ℕ) {state : List ℤ} → State fil
 state-idle file vars w v l =
     let h = within-at w v in
     ≤ℤ-antisym (rw (ends-beyond file vars 4 v l) at (h .1)) (rw (ends-beyond file vars 2 v l) at (h .0))
+
+pub states-idle : (file : List ℕ) (vars : ℕ) (state : List ℤ) → State file vars state → Idle vars (lowsOf file vars) (highsOf file vars) state
+unfolding Idle
+states-idle file vars state w i l m =
+    let e = state-idle file vars w i l in
+    (e ∙ sym (ends-beyond file vars 2 i l), ends-beyond file vars 4 i l ∙ sym e)

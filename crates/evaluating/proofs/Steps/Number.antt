@@ -10,11 +10,11 @@ use native.Mathlib.Omega.{arith}
 use lib.Arith.{digits-div, digits-mod, mod-mul}
 use lib.IntN.{ℤ, pos, _+ℤ_}
 use lib.ListN.{length, take, drop, getD, set, drop-of-length-le}
-use lib.Seq.{drop-cons, take-all}
+use lib.Seq.{drop-cons, take-all, set-getD}
 use lib.Signed.{leZ, ltZ}
 use Rattle.integers.specs.Radix.{at, offsetOf}
 use Rattle.integers.proofs.Laws.Parts.{ints}
-use Rattle.evaluating.specs.State.{Ranges}
+use Rattle.evaluating.specs.State.{Ranges, Idle}
 use Rattle.evaluating.specs.State.Ranges.{none as no-ranges, more as more-ranges}
 use Rattle.evaluating.specs.Number.{sizeOf, countOf, stateOf, lastOf, advanceOf}
 use Rattle.evaluating.proofs.Laws.Number.{size-pos, count-pos}
@@ -178,9 +178,9 @@ advance-front (suc j) (low ∷ lows) (high ∷ highs) (value ∷ state) k l m e 
     rw (last-front j highs state (omega arith) (omega arith) e, advance-front j lows highs state (omega arith) (omega arith) (omega arith) e)
 
 module _ (lows highs state : List ℤ) where
-  pub carried-begin : length lows ≡ 12 → length highs ≡ 12 → length state ≡ 12 → Carried lows highs state state 12
+  carried-none : length lows ≡ 12 → length highs ≡ 12 → length state ≡ 12 → Carried lows highs state state 12
   unfolding advanceOf lastOf
-  carried-begin e d c =
+  carried-none e d c =
       record {
         long = e;
         wide = d;
@@ -243,3 +243,16 @@ module _ (lows highs state : List ℤ) where
       let g : leZ (getD highs j (pos 0)) (getD state j (pos 0)) ≡ false = omega ints in
       rw (c .done, sub-one, advance-front j lows highs state k l m (last-from j l m ∙ rw g), advance-from j k l m (c .full), f)
       (set-join j state _ _ m)
+
+  -- an idle variable is at its high end, and anew it is what it was
+  pub carried-begin : (vars : ℕ) → vars ≤ 12 → length lows ≡ 12 → length highs ≡ 12 → length state ≡ 12 → Idle vars lows highs state
+      → Carried lows highs state state vars
+  unfolding Idle
+  carried-begin vars l e d c f = from (12 - vars) vars (omega arith) (omega arith)
+    where
+      from : (n i : ℕ) → n + i ≡ 12 → vars ≤ i → Carried lows highs state state i
+      from zero i s m = let t : i ≡ 12 = omega arith in rw t (carried-none e d c)
+      from (suc n) i s m =
+          let a = f i m (omega arith) in
+          let b = from n (suc i) (omega arith) (omega arith) in
+          rw (sub-one, sym (a .0), set-getD) at (carried-more state (suc i) b (omega arith) (rw (sub-one, a .1) (omega ints)))

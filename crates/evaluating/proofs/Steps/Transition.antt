@@ -2,25 +2,16 @@
 use mathlib.Core.Path.{_≡_, refl}
 use mathlib.Core.List.{List, [], _∷_}
 use mathlib.Core.Bool.{true, false}
-use Prim.Native.Nat.{ℕ, zero, suc, _+_, _-_, _*_, _/_, _≤_, _<_}
-use native.Mathlib.Omega.{arith}
+use Prim.Native.Nat.{ℕ, zero, suc, _+_, _/_, _<_}
 use lib.IntN.{ℤ}
-use lib.ListN.{length, set, length-drop}
-use Rattle.evaluating.specs.Expression.{partAt, truthAt, Fits}
+use lib.ListN.{length, set}
+use Rattle.evaluating.specs.Expression.{partAt, Fits}
 use Rattle.parsing.specs.Record.{fieldA, kindIs}
 use Rattle.parsing.specs.Kind.{number as numberSort}
 use Rattle.evaluating.specs.declared.transitions.Assignment.{Assignment}
-use Rattle.evaluating.specs.declared.expressions.Truth.{Truth}
 use Rattle.evaluating.specs.declared.transitions.Assigned.{Assigned}
 use Rattle.evaluating.specs.declared.transitions.Stepped.{Stepped}
 use Rattle.evaluating.specs.Transition.{behind, assignmentAt, assignmentsFrom, inRangeOf, allInRange, assigned, guardOf, assignmentsOf, enabledOf, successorOf, assignOf, stepOf, AssignmentsFit}
-use Rattle.evaluating.proofs.Laws.Expression.{fits-within, fits-here}
-
--- the expression at a record ends within the file
-pub behind-within : (want : ℕ) (file : List ℕ) (at : ℕ) (state : List ℤ) → Fits 16 want (partAt file at) state → 8 * behind file at ≤ length file
-unfolding behind
-behind-within want file at state h =
-    omega (arith, fits-here file at 16 want state h, fits-within 16 want (partAt file at) state h, length-drop (8 * at) file)
 
 -- ---- the assignments from a record on
 module _ (file : List ℕ) (at : ℕ) (state : List ℤ) where
@@ -34,7 +25,8 @@ module _ (file : List ℕ) (at : ℕ) (state : List ℤ) where
     unfolding assignmentsFrom
     list-more = rw (is, e)
 
-    pub fits-more : AssignmentsFit file left at state → (fieldA file at < 12) × Fits 16 numberSort (partAt file (at + 1)) state × AssignmentsFit file n (behind file (at + 1)) state
+    pub fits-more : AssignmentsFit file left at state
+        → (fieldA file at < 12) × Fits 16 numberSort (partAt file (at + 1)) state × AssignmentsFit file n (behind file (at + 1)) state
     unfolding AssignmentsFit
     fits-more h = (rw is at h) e
 
@@ -58,7 +50,8 @@ module _ (lows highs : List ℤ) (file : List ℕ) (state : List ℤ) (all : Lis
     left-end e = done (rw e)
 
     module _ (n : ℕ) (is : left ≡ suc n) (e : kindIs file 0x04 at ≡ true) {a : Assignment} (found : a ≡ assignmentAt file at state) where
-      pub left-out : inRangeOf lows highs (a .variable) (a .value) ≡ false → _≡_ {A = Assigned} (record { fits = false; next = state }) (assignOf lows highs all state)
+      pub left-out : inRangeOf lows highs (a .variable) (a .value) ≡ false
+          → _≡_ {A = Assigned} (record { fits = false; next = state }) (assignOf lows highs all state)
       unfolding assignOf allInRange
       left-out o =
           let r : false ≡ allInRange lows highs all = rw (list-more file at state is e, ← found, o) at (l .range) in
@@ -86,21 +79,14 @@ pub left-begins : (lows highs : List ℤ) (file : List ℕ) (state : List ℤ) (
 left-begins lows highs file state n first h = record { fit = h; range = refl; result = refl }
 
 -- ---- the step: the guard, then the assignments
-module _ (file : List ℕ) (at : ℕ) (state : List ℤ) {x : Truth} (found : x ≡ truthAt 16 (partAt file (at + 1)) state) where
-  pub guard-found : x .value ≡ guardOf file at state
-  unfolding guardOf truthAt
-  guard-found = rw found
-
-  pub behind-found : at + 1 + x .records ≡ behind file (at + 1)
-  unfolding behind truthAt
-  behind-found = rw found
-
 module _ (lows highs : List ℤ) (file : List ℕ) (at : ℕ) (state : List ℤ) where
-  pub step-off : guardOf file at state ≡ false → _≡_ {A = Stepped} (record { guard = false; enabled = false; next = state }) (stepOf lows highs file at state)
+  pub step-off : guardOf file at state ≡ false
+      → _≡_ {A = Stepped} (record { guard = false; enabled = false; next = state }) (stepOf lows highs file at state)
   unfolding stepOf enabledOf
   step-off e = rw e
 
-  pub step-on : guardOf file at state ≡ true → {a : Assigned} → a ≡ assignOf lows highs (assignmentsFrom file (length file / 8) (behind file (at + 1)) state) state
+  pub step-on : guardOf file at state ≡ true → {a : Assigned}
+      → a ≡ assignOf lows highs (assignmentsFrom file (length file / 8) (behind file (at + 1)) state) state
       → _≡_ {A = Stepped} (record { guard = true; enabled = a .fits; next = a .next }) (stepOf lows highs file at state)
   unfolding stepOf enabledOf successorOf assignOf assignmentsOf
   step-on e is = rw (e, is)

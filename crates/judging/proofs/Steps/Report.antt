@@ -10,14 +10,7 @@ use lib.ListN.{length, take, drop, getD, set, length-append, length-set, take-ap
 use lib.Seq.{take-suc, take-all, drop-cons, length-take-le}
 use Rattle.integers.specs.Bytes.{lowByte, highByte}
 use Rattle.judging.specs.Report.{valueBytes}
-use Rattle.judging.proofs.Laws.Report.{value-bytes}
-
-set-pair : (p q : List ℕ) (x y a b : ℕ) → set (set (p ++ x ∷ y ∷ q) (length p) a) (suc (length p)) b ≡ p ++ a ∷ b ∷ q
-set-pair [] q x y a b = refl
-set-pair (z ∷ p) q x y a b = ap {B = List ℕ} (λ l. z ∷ l) (set-pair p q x y a b)
-
-set-pair-at : (p q : List ℕ) (x y a b n : ℕ) → length p ≡ n → set (set (p ++ x ∷ y ∷ q) n a) (suc n) b ≡ p ++ a ∷ b ∷ q
-set-pair-at p q x y a b n e = rw (← e) (set-pair p q x y a b)
+use Rattle.judging.proofs.Laws.Report.{value-bytes, set-pair-at}
 
 bytes-append : (s t : List ℤ) → valueBytes (s ++ t) ≡ valueBytes s ++ valueBytes t
 unfolding valueBytes

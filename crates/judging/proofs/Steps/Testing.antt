@@ -271,41 +271,47 @@ module _ (lows highs : List ℤ) (file : List ℕ) (at : ℕ) (state : List ℤ)
         rw next-is (assigned-within lows highs (assignmentsOf file at state) state w (b .1))
 
 module _ (lows highs : List ℤ) (file : List ℕ) (test : Test) (state : List ℤ) where
-  pub passes-vacuous : holdsOf file (test .premise) state ≡ false → true ≡ passesOf lows highs file test state
-  unfolding passesOf implies
-  passes-vacuous t = rw t
-
-  module _ (t : holdsOf file (test .premise) state ≡ true) where
-    concludes : {k : Conclusion} → test .conclusion ≡ k → concludesOf lows highs file test k state ≡ passesOf lows highs file test state
+  module _ {p : Bool} (is : p ≡ holdsOf file (test .premise) state) where
+    pub passes-vacuous : p ≡ false → passesOf lows highs file test state ≡ true
     unfolding passesOf implies
-    concludes e = rw (t, e)
+    passes-vacuous t = rw (← is, t)
 
-    pub passes-some : test .conclusion ≡ Conclusion.SomeTarget → someHolds file (targetsListed test) state ≡ passesOf lows highs file test state
+    pub passes-concluded : p ≡ true → {q : Bool} → q ≡ concludesOf lows highs file test (test .conclusion) state
+        → passesOf lows highs file test state ≡ q
+    unfolding passesOf implies
+    passes-concluded t e = rw (← is, t, e)
+
+  pub concludes-some : test .conclusion ≡ Conclusion.SomeTarget
+      → someHolds file (targetsListed test) state ≡ concludesOf lows highs file test (test .conclusion) state
+  unfolding concludesOf
+  concludes-some k = rw k
+
+  module _ {s : Stepped} (is : s ≡ stepOf lows highs file (test .transition) state) where
+    enabled : s .enabled ≡ enabledOf lows highs file (test .transition) state
+    enabled = enabled-is lows highs file (test .transition) state is
+
+    pub concludes-range : test .conclusion ≡ Conclusion.InRange
+        → (not (s .guard) || s .enabled) ≡ concludesOf lows highs file test (test .conclusion) state
+    unfolding concludesOf stepOf
+    concludes-range k =
+        rw k
+        (ap (λ (r : Stepped). not (r .guard) || r .enabled) is
+        ∙ implies-or (guardOf file (test .transition) state) (enabledOf lows highs file (test .transition) state))
+
+    pub concludes-enabled : test .conclusion ≡ Conclusion.Enabled → s .enabled ≡ concludesOf lows highs file test (test .conclusion) state
     unfolding concludesOf
-    passes-some e = concludes e
+    concludes-enabled k = rw k enabled
 
-    module _ {s : Stepped} (is : s ≡ stepOf lows highs file (test .transition) state) where
-      pub passes-range : test .conclusion ≡ Conclusion.InRange → (not (s .guard) || s .enabled) ≡ passesOf lows highs file test state
-      unfolding concludesOf stepOf
-      passes-range e =
-          ap (λ (r : Stepped). not (r .guard) || r .enabled) is
-          ∙ implies-or (guardOf file (test .transition) state) (enabledOf lows highs file (test .transition) state)
-          ∙ concludes e
+    pub concludes-idle : test .conclusion ≡ Conclusion.Reached → s .enabled ≡ false
+        → true ≡ concludesOf lows highs file test (test .conclusion) state
+    unfolding concludesOf implies
+    concludes-idle k e = rw (k, ← enabled, e)
 
-      pub passes-enabled : test .conclusion ≡ Conclusion.Enabled → s .enabled ≡ passesOf lows highs file test state
-      unfolding concludesOf
-      passes-enabled e = enabled-is lows highs file (test .transition) state is ∙ concludes e
-
-      pub passes-idle : test .conclusion ≡ Conclusion.Reached → s .enabled ≡ false → true ≡ passesOf lows highs file test state
-      unfolding concludesOf implies
-      passes-idle k e = rw (← (concludes k), ← (enabled-is lows highs file (test .transition) state is), e)
-
-      pub passes-reached : test .conclusion ≡ Conclusion.Reached → s .enabled ≡ true
-          → someHolds file (targetsListed test) (s .next) ≡ passesOf lows highs file test state
-      unfolding concludesOf implies
-      passes-reached k e =
-          rw (← (concludes k), ← (enabled-is lows highs file (test .transition) state is), e)
-          (ap (someHolds file (targetsListed test)) (next-is lows highs file (test .transition) state is e))
+    pub concludes-reached : test .conclusion ≡ Conclusion.Reached → s .enabled ≡ true
+        → someHolds file (targetsListed test) (s .next) ≡ concludesOf lows highs file test (test .conclusion) state
+    unfolding concludesOf implies
+    concludes-reached k e =
+        rw (k, ← enabled, e) (ap (someHolds file (targetsListed test)) (next-is lows highs file (test .transition) state is e))
 
 -- ---- the test of a condition, by the tables of places
 module _ (file : List ℕ) (o : Outline) where

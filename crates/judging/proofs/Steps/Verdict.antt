@@ -1,12 +1,12 @@
 -- The search for the lowest broken condition: what is at hand before it, a condition and its test, and the loops over the states and the conditions.
 -- Assumes nothing.
 use mathlib.Core.Path.{_≡_, sym, _∙_}
-use mathlib.Core.Bool.{Bool, true, false, not, cond}
+use mathlib.Core.Bool.{Bool, true, false, cond}
 use mathlib.Core.List.{List}
 use Prim.Native.Nat.{ℕ, _+_, _/_, _<_, _≤_}
 use native.Mathlib.Omega.{arith}
 use borrow.Author.Count.{below-more}
-use borrow.Author.Tests.{le-leb, lt-leb, not-true, not-false}
+use borrow.Author.Tests.{le-leb, lt-leb}
 use lib.IntN.{ℤ}
 use lib.ListN.{length}
 use Rattle.parsing.specs.declared.outline.Outline.{Outline}
@@ -16,8 +16,9 @@ use Rattle.parsing.proofs.Laws.Section.{kind-here}
 use Rattle.reading.specs.declared.Reading.{Reading}
 use Rattle.reading.specs.Read.{readOf}
 use Rattle.reading.proofs.Laws.Readable.{variables-within, transitions-within, nodes-within, node, fits}
-use Rattle.evaluating.specs.State.{lowsOf, highsOf, Ranges, Within, State}
+use Rattle.evaluating.specs.State.{lowsOf, highsOf, Ranges, Within, State, Idle}
 use Rattle.evaluating.specs.Number.{countOf, stateOf, advanceOf}
+use Rattle.evaluating.proofs.Laws.State.{states-idle}
 use Rattle.evaluating.proofs.Laws.Readable.{ranges, states-within, numbered, first, next}
 use Rattle.judging.specs.Condition.{totalOf, conditionAt, Listed, nodeNumber, transitionNumber}
 use Rattle.judging.specs.Holding.{conditionHolds}
@@ -181,25 +182,30 @@ module _ {file : List ℕ} {o : Outline} {low high : List ℤ} {states : ℕ} {n
         pub passed-asks : Within low high state × TestFits low high file test
         passed-asks = passes-asks (rw (p .here (number-below l)) (at-within l))
 
-        module _ {b : Bool} (f : b ≡ passesOf low high file test state) where
-          holds-is : conditionHolds file o (conditionAt file o number) (stateAt file o n) ≡ b
-          holds-is = rw (p .here (number-below l)) at (sym (passes-is state) ∙ sym f)
+        pub advance-asks : (o .vars ≤ 12) × Idle (o .vars) low high state
+        advance-asks = (
+          variables-within file o (h .readable) .1,
+          rw (h .low-is, h .high-is) (states-idle file (o .vars) state (rw (h .low-is, h .high-is) at (passed-asks .0))),
+        )
 
-          pub passed-more : not b ≡ false → {after : List ℤ} → after ≡ advanceOf low high state
-              → Passed file o (conditionAt file o number) after (n + 1)
-          unfolding statesOf stateAt
-          passed-more t e =
-              let m = number-below l in
-              record {
-                passed = omega arith;
-                here = λ k. e ∙ rw (h .low-is, h .high-is, p .here m) (next file o (h .readable) n k);
-                held = below-more _ n (p .held) (holds-is ∙ not-false b t);
-              }
+        holds-is : {b : Bool} → passesOf low high file test state ≡ b → conditionHolds file o (conditionAt file o number) (stateAt file o n) ≡ b
+        holds-is f = rw (p .here (number-below l)) at (sym (passes-is state) ∙ f)
 
-          pub passed-broke : not b ≡ true → Broke file o number state
-          passed-broke t =
-              let m = number-below l in
-              record { at = n; below = m; is = p .here m; held = p .held; breaks = holds-is ∙ not-true b t }
+        pub passed-more : passesOf low high file test state ≡ true → {after : List ℤ} → after ≡ advanceOf low high state
+            → Passed file o (conditionAt file o number) after (n + 1)
+        unfolding statesOf stateAt
+        passed-more f e =
+            let m = number-below l in
+            record {
+              passed = omega arith;
+              here = λ k. e ∙ rw (h .low-is, h .high-is, p .here m) (next file o (h .readable) n k);
+              held = below-more _ n (p .held) (holds-is f);
+            }
+
+        pub passed-broke : passesOf low high file test state ≡ false → Broke file o number state
+        passed-broke f =
+            let m = number-below l in
+            record { at = n; below = m; is = p .here m; held = p .held; breaks = holds-is f }
 
   -- ---- the conditions
   module _ {number : ℕ} (s : Searched file o number) where

@@ -3,7 +3,7 @@
 use mathlib.Core.Path.{_≡_, sym}
 use mathlib.Core.Bool.{cond}
 use native.Mathlib.Omega.{arith}
-use Rattle.reading.proofs.Laws.Readable.{variables-within}
+use Rattle.reading.proofs.Laws.Readable.{small, variables-within}
 use Rattle.judging.specs.Testing.{nodesOf, transitionsOf}
 use Rattle.judging.specs.Verdict.{testedOf}
 use Rattle.judging.specs.declared.verdicts.Single.{Single}
@@ -33,15 +33,19 @@ ready c =
       total-is = c .before .before .before .before .before .before .before .total .ensures;
     }
 
+abbrev before-test : tie.After-spans → tie.After-transition-places
+before-test c = c .before .before .before .before .before
+
 answers : (c : tie.After-passes)
-    → testedOf (start (c .before .before .before .before) .args .file .now) (start (c .before .before .before .before) .args .outline)
-    (start (c .before .before .before .before) .args .condition) (start (c .before .before .before .before) .args .state)
+    → testedOf (start (before-test (c .before)) .args .file .now) (start (before-test (c .before)) .args .outline)
+    (start (before-test (c .before)) .args .condition) (start (before-test (c .before)) .args .state)
     ≡ cond (c .passes .result) Single.Holds Single.Fails
 answers c =
-    let d = c .before .before .before .before in
+    let d = before-test (c .before) in
+    let s = c .before .before .before in
     single-answers (ready d) (d .before .before .before .before .before .before .if1 .left)
-    (c .before .before .before .condition-at .ensures) (c .before .before .test-of .ensures)
-    (d .before .before .if2 .left) (c .before .state-of .ensures) (c .passes .ensures)
+    (s .before .before .condition-at .ensures) (s .before .test-of .ensures)
+    (d .before .before .if2 .left) (s .state-of .ensures) (c .passes .ensures)
 
 total-requires : tie.Need-total-requires
 total-requires c κs = search needs
@@ -84,11 +88,20 @@ test-of-requires c κs =
 state-of-requires : tie.Need-state-of-requires
 state-of-requires c κs = let d = c .before .before in state-asks (ready d) (d .before .before .if2 .left)
 
+spans-of-requires : tie.Need-spans-of-requires
+spans-of-requires c κs = small _ _ (start (c .before .before .before) .pre)
+
+slice-aggregate-passes : tie.Need-slice-aggregate-passes
+slice-aggregate-passes c = search needs
+
 passes-requires : tie.Need-passes-requires
 passes-requires c κs =
-    let d = c .before .before .before in
-    single-asks (ready d) (d .before .before .before .before .before .before .if1 .left) (c .before .before .condition-at .ensures)
-    (c .before .test-of .ensures) (d .before .before .if2 .left) (c .state-of .ensures)
+    let s = c .before .before in
+    let d = s .before .before .before in (
+      c .before .spans-of .ensures,
+      single-asks (ready d) (d .before .before .before .before .before .before .if1 .left) (s .before .before .condition-at .ensures)
+          (s .before .test-of .ensures) (d .before .before .if2 .left) (s .state-of .ensures),
+    )
 
 returns-3 : tie.Need-returns-3
 returns-3 c = sym (rw (c .if3 .taken) at (answers (c .before)))
@@ -111,6 +124,8 @@ tested-spec =
     condition-at-requires
     test-of-requires
     state-of-requires
+    spans-of-requires
+    slice-aggregate-passes
     passes-requires
     returns-3
     returns-4)

@@ -1,7 +1,6 @@
 -- `evaluating::expressions::constant` meets its contract. Assumes nothing.
 use mir.Syntax.{w16, w64}
 use Rattle.integers.proofs.Laws.Parts.{back}
-use Rattle.evaluating.specs.Expression.{single}
 use borrow.Author.Needs.{needs}
 use Rattle.evaluating.proofs.expressions.constant.Statement.{statement}
 use Rattle.evaluating.proofs.expressions.constant.Tie as tie
@@ -19,9 +18,12 @@ widen-requires : tie.Need-widen-requires
 widen-requires c κs = search needs
 
 returns : tie.Need-returns
-unfolding single
-returns c = rw
-    (back w64 (c .widen .result) (c .widen .ok), c .widen .ensures, back w16 (c .before .signed16 .result) (c .before .signed16 .ok), c .before .signed16 .ensures)
+returns c = rw (
+  back w64 (c .widen .result) (c .widen .ok),
+  c .widen .ensures,
+  back w16 (c .before .signed16 .result) (c .before .signed16 .ok),
+  c .before .signed16 .ensures,
+)
 
 pub constant-spec : {M : Type 1} → statement M
 constant-spec =

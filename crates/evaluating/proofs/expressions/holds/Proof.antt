@@ -1,32 +1,48 @@
 -- `evaluating::expressions::holds` meets its contract. Assumes nothing.
-use Prim.Native.Nat.{_*_}
-use Rattle.parsing.specs.Kind.{truth as truthSort}
+use Prim.Native.Nat.{_+_, _*_, _≤_}
 use native.Mathlib.Omega.{arith}
+use lib.ListN.{length}
+use Rattle.parsing.specs.Kind.{truth as truthSort}
+use Rattle.evaluating.specs.Expression.{holdsOf}
 use Rattle.evaluating.proofs.Laws.Expression.{fits-here}
-use Rattle.evaluating.specs.Expression.{truthAt, holdsOf}
-use Rattle.evaluating.proofs.Steps.Part.{take-rest}
+use Rattle.evaluating.proofs.Steps.Part.{take-rest, lent}
 use borrow.Author.Needs.{needs}
 use Rattle.evaluating.proofs.expressions.holds.Statement.{statement}
 use Rattle.evaluating.proofs.expressions.holds.Tie as tie
 
+here : (s : tie.Start) → 8 * s .args .at + 8 ≤ length (s .args .file .now)
+here s = fits-here (s .args .file .now) (s .args .at) 16 truthSort (s .args .state) (s .pre .0)
+
 mul-truth-at : tie.Need-mul-truth-at
-mul-truth-at c = omega (arith, fits-here (c .before .args .file .now) (c .before .args .at) 16 truthSort (c .before .args .state) (c .before .pre))
+mul-truth-at c = omega (arith, here (c .before .before))
 
 sub-truth-at : tie.Need-sub-truth-at
-sub-truth-at c = omega (arith, fits-here (c .before .args .file .now) (c .before .args .at) 16 truthSort (c .before .args .state) (c .before .pre))
+sub-truth-at c = omega (arith, here (c .before .before))
 
 part-truth-at-start : tie.Need-part-truth-at-start
-part-truth-at-start c = omega (arith, fits-here (c .before .args .file .now) (c .before .args .at) 16 truthSort (c .before .args .state) (c .before .pre))
+part-truth-at-start c = omega (arith, here (c .before .before))
 
 part-truth-at-end : tie.Need-part-truth-at-end
 part-truth-at-end c = search needs
 
+mul-truth-at-2 : tie.Need-mul-truth-at-2
+mul-truth-at-2 c = omega (arith, here (c .before .before .before))
+
+sub-truth-at-2 : tie.Need-sub-truth-at-2
+sub-truth-at-2 c = omega (arith, here (c .before .before .before))
+
+part-truth-at-start-2 : tie.Need-part-truth-at-start-2
+part-truth-at-start-2 c = omega (arith, here (c .before .before .before))
+
+part-truth-at-end-2 : tie.Need-part-truth-at-end-2
+part-truth-at-end-2 c = search needs
+
 truth-at-requires : tie.Need-truth-at-requires
-truth-at-requires c κs = rw (take-rest (8 * c .before .before .args .at) (c .before .before .args .file .now)) (c .before .before .pre)
+truth-at-requires c κs = let s = c .before .before .before .before in lent _ _ (s .pre .1) truthSort (s .args .at) _ (s .pre .0)
 
 returns : tie.Need-returns
-unfolding holdsOf truthAt
-returns c = rw (c .truth-at .ensures, take-rest (8 * c .before .before .before .args .at) (c .before .before .before .args .file .now))
+unfolding holdsOf
+returns c = let s = c .before .before .before .before .before in rw (c .truth-at .ensures, take-rest (8 * s .args .at) (s .args .file .now))
 
 pub holds-spec : {M : Type 1} → statement M
 holds-spec =
@@ -36,5 +52,9 @@ holds-spec =
     sub-truth-at
     part-truth-at-start
     part-truth-at-end
+    mul-truth-at-2
+    sub-truth-at-2
+    part-truth-at-start-2
+    part-truth-at-end-2
     truth-at-requires
     returns)

@@ -1,7 +1,6 @@
 -- `evaluating::expressions::variable` meets its contract. Assumes nothing.
 use mir.Syntax.{w16, w64}
 use Rattle.integers.proofs.Laws.Parts.{back}
-use Rattle.evaluating.specs.Expression.{single}
 use borrow.Author.Needs.{needs}
 use Rattle.evaluating.proofs.expressions.variable.Statement.{statement}
 use Rattle.evaluating.proofs.expressions.variable.Tie as tie
@@ -22,7 +21,6 @@ widen-requires : tie.Need-widen-requires
 widen-requires c κs = search needs
 
 returns : tie.Need-returns
-unfolding single
 returns c = rw (back w64 (c .widen .result) (c .widen .ok), c .widen .ensures, back w16 _ (c .before .value .given))
 
 pub variable-spec : {M : Type 1} → statement M

@@ -17,13 +17,13 @@ use Rattle.evaluating.proofs.states.advance.Statement.{statement}
 use Rattle.evaluating.proofs.states.advance.Tie as tie
 
 abbrev Inv-loop : tie.InvT-loop
-Inv-loop low high next₀ i₀ next i = Carried low high next₀ next i
+Inv-loop vars low high next₀ i₀ next i = Carried low high next₀ next i
 
 abbrev μ-loop : tie.MeasureT-loop
-μ-loop low high next₀ i₀ next i = i
+μ-loop vars low high next₀ i₀ next i = i
 
 loop-holds : tie.Need-loop-holds Inv-loop μ-loop
-loop-holds c = carried-begin _ _ _ (search needs) (search needs) (search needs)
+loop-holds c = carried-begin _ _ _ _ (search needs) (search needs) (search needs) (search needs) (c .pre .1)
 
 sub-i : tie.Need-sub-i Inv-loop μ-loop
 sub-i c = search needs

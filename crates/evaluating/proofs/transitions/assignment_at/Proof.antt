@@ -1,26 +1,28 @@
 -- `evaluating::transitions::assignment_at` meets its contract. Assumes nothing.
-use Prim.Native.Nat.{_+_, _*_}
-use Rattle.parsing.specs.Kind.{number as numberSort}
-use Rattle.evaluating.proofs.Laws.Expression.{fits-here}
+use Prim.Native.Nat.{_+_, _*_, _≤_}
 use native.Mathlib.Omega.{arith}
+use lib.ListN.{length, getD}
 use mir.Syntax.{w64}
 use Rattle.integers.proofs.Laws.Parts.{back}
-use Rattle.evaluating.specs.Expression.{numberAt}
-use Rattle.evaluating.specs.Transition.{behind, assignmentAt}
-use Rattle.evaluating.proofs.Steps.Part.{take-rest}
-use Rattle.evaluating.proofs.Steps.Expression.{number-records}
-use Rattle.evaluating.proofs.Steps.Transition.{behind-within}
+use Rattle.parsing.specs.Kind.{number as numberSort}
+use Rattle.evaluating.specs.Transition.{assignmentAt}
+use Rattle.evaluating.proofs.Laws.Expression.{fits-here}
+use Rattle.evaluating.proofs.Steps.Part.{take-rest, lent, behind-is, behind-within}
 use borrow.Author.Needs.{needs}
 use Rattle.evaluating.proofs.transitions.assignment_at.Statement.{statement}
 use Rattle.evaluating.proofs.transitions.assignment_at.Tie as tie
 
+here : (s : tie.Start) → 8 * (s .args .at + 1) + 8 ≤ length (s .args .file .now)
+here s = fits-here (s .args .file .now) (s .args .at + 1) 16 numberSort (s .args .state) (s .pre .0)
+
+end : (s : tie.Start) → 8 * (s .args .at + 1 + getD (s .args .spans .now) (s .args .at + 1) 0) ≤ length (s .args .file .now)
+end s = behind-within _ _ (s .pre .1) numberSort (s .args .at + 1) _ (s .pre .0)
+
 mul-byte-at : tie.Need-mul-byte-at
-mul-byte-at c = omega
-    (arith, fits-here (c .before .args .file .now) (c .before .args .at + 1) 16 numberSort (c .before .args .state) (c .before .pre))
+mul-byte-at c = omega (arith, here (c .before .before))
 
 add-byte-at : tie.Need-add-byte-at
-add-byte-at c = omega
-    (arith, fits-here (c .before .args .file .now) (c .before .args .at + 1) 16 numberSort (c .before .args .state) (c .before .pre))
+add-byte-at c = omega (arith, here (c .before .before))
 
 byte-at-requires : tie.Need-byte-at-requires
 byte-at-requires c κs = search needs
@@ -29,37 +31,58 @@ cast-variable : tie.Need-cast-variable
 cast-variable c = search needs
 
 add-from : tie.Need-add-from
-add-from c = omega
-    (arith, fits-here (c .before .before .args .file .now) (c .before .before .args .at + 1) 16 numberSort (c .before .before .args .state) (c .before .before .pre))
+add-from c = omega (arith, here (c .before .before .before))
 
 mul-number-at : tie.Need-mul-number-at
-mul-number-at c = omega
-    (arith, fits-here (c .before .before .args .file .now) (c .before .before .args .at + 1) 16 numberSort (c .before .before .args .state) (c .before .before .pre))
+mul-number-at c = omega (arith, here (c .before .before .before))
 
 sub-number-at : tie.Need-sub-number-at
-sub-number-at c = omega
-    (arith, fits-here (c .before .before .args .file .now) (c .before .before .args .at + 1) 16 numberSort (c .before .before .args .state) (c .before .before .pre))
+sub-number-at c = omega (arith, here (c .before .before .before))
 
 part-number-at-start : tie.Need-part-number-at-start
-part-number-at-start c = omega
-    (arith, fits-here (c .before .before .args .file .now) (c .before .before .args .at + 1) 16 numberSort (c .before .before .args .state) (c .before .before .pre))
+part-number-at-start c = omega (arith, here (c .before .before .before))
 
 part-number-at-end : tie.Need-part-number-at-end
 part-number-at-end c = search needs
 
-number-at-requires : tie.Need-number-at-requires
-number-at-requires c κs = rw (take-rest (8 * (c .before .before .before .args .at + 1)) (c .before .before .before .args .file .now))
-    (c .before .before .before .pre)
+mul-number-at-2 : tie.Need-mul-number-at-2
+mul-number-at-2 c = omega (arith, here (c .before .before .before .before))
 
-add-t8 : tie.Need-add-t8
-unfolding behind
-add-t8 c = omega
-    (arith, behind-within numberSort (c .before .before .before .before .before .args .file .now) (c .before .before .before .before .before .args .at + 1) (c .before .before .before .before .before .args .state) (c .before .before .before .before .before .pre), number-records _ _ _ (rw (take-rest (8 * (c .before .before .before .before .before .args .at + 1)) (c .before .before .before .before .before .args .file .now)) at (c .before .number-at .ensures)))
+sub-number-at-2 : tie.Need-sub-number-at-2
+sub-number-at-2 c = omega (arith, here (c .before .before .before .before))
+
+part-number-at-start-2 : tie.Need-part-number-at-start-2
+part-number-at-start-2 c = omega (arith, here (c .before .before .before .before))
+
+part-number-at-end-2 : tie.Need-part-number-at-end-2
+part-number-at-end-2 c = search needs
+
+number-at-requires : tie.Need-number-at-requires
+number-at-requires c κs = let s = c .before .before .before .before .before in lent _ _ (s .pre .1) numberSort (s .args .at + 1) _ (s .pre .0)
+
+mul-t9 : tie.Need-mul-t9
+mul-t9 c = omega (arith, here (c .before .before .before .before .before .before))
+
+shared-slice-read-t20 : tie.Need-shared-slice-read-t20
+shared-slice-read-t20 c = omega (arith, here (c .before .before .before .before .before .before .before))
+
+cast-t16 : tie.Need-cast-t16
+cast-t16 c = let s = c .before .before .before .before .before .before .before in omega (arith, here s, end s)
+
+add-t14 : tie.Need-add-t14
+add-t14 c = let s = c .before .before .before .before .before .before .before in omega (arith, here s, end s)
 
 returns : tie.Need-returns
-unfolding assignmentAt behind numberAt
-returns c = rw
-    (back w64 (c .before .before .number-at .result .value) (c .struct-told .given .0 .1), c .before .before .before .before .byte-at .ensures, c .before .before .number-at .ensures, take-rest (8 * (c .before .before .before .before .before .before .args .at + 1)) (c .before .before .before .before .before .before .args .file .now))
+unfolding assignmentAt
+returns c = let s = c .before .before .before .before .before .before .before in
+    let x = c .before .number-at in
+    rw (
+      back w64 (x .result) (x .ok),
+      c .before .before .before .before .byte-at .ensures,
+      x .ensures,
+      take-rest (8 * (s .args .at + 1)) (s .args .file .now),
+    )
+    (rw (behind-is _ _ (s .pre .1) numberSort (s .args .at + 1) _ (s .pre .0)))
 
 pub assignment-at-spec : {M : Type 1} → statement M
 assignment-at-spec =
@@ -74,6 +97,13 @@ assignment-at-spec =
     sub-number-at
     part-number-at-start
     part-number-at-end
+    mul-number-at-2
+    sub-number-at-2
+    part-number-at-start-2
+    part-number-at-end-2
     number-at-requires
-    add-t8
+    mul-t9
+    shared-slice-read-t20
+    cast-t16
+    add-t14
     returns)

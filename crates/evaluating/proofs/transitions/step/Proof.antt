@@ -1,55 +1,83 @@
 -- `evaluating::transitions::step` meets its contract. Assumes nothing.
-use borrow.Author.Tests.{not-true, not-false}
 use mathlib.Core.Path.{sym, _∙_}
-use Prim.Native.Nat.{_+_, _*_}
-use Rattle.parsing.specs.Kind.{truth as truthSort}
+use Prim.Native.Nat.{_+_, _*_, _≤_}
 use native.Mathlib.Omega.{arith}
+use lib.ListN.{length, getD}
+use borrow.Author.Tests.{not-true, not-false}
+use Rattle.parsing.specs.Kind.{truth as truthSort}
+use Rattle.evaluating.specs.Transition.{guardOf}
 use Rattle.evaluating.proofs.Laws.Expression.{fits-here}
-use Rattle.evaluating.proofs.Steps.Part.{take-rest}
-use Rattle.evaluating.proofs.Steps.Transition.{behind-within, guard-found, behind-found, step-off, step-on}
+use Rattle.evaluating.proofs.Steps.Part.{take-rest, lent, behind-is, behind-within}
+use Rattle.evaluating.proofs.Steps.Transition.{step-off, step-on}
 use borrow.Author.Needs.{needs}
 use Rattle.evaluating.proofs.transitions.step.Statement.{statement}
 use Rattle.evaluating.proofs.transitions.step.Tie as tie
 
+here : (s : tie.Start) → 8 * (s .args .at + 1) + 8 ≤ length (s .args .file .now)
+here s = fits-here (s .args .file .now) (s .args .at + 1) 16 truthSort (s .args .state) (s .pre .1 .guard)
+
+end : (s : tie.Start) → 8 * (s .args .at + 1 + getD (s .args .spans .now) (s .args .at + 1) 0) ≤ length (s .args .file .now)
+end s = behind-within _ _ (s .pre .0) truthSort (s .args .at + 1) _ (s .pre .1 .guard)
+
 add-from : tie.Need-add-from
-add-from c = omega
-    (arith, fits-here (c .before .args .file .now) (c .before .args .at + 1) 16 truthSort (c .before .args .state) (c .before .pre .guard))
+add-from c = omega (arith, here (c .before .before))
 
 mul-truth-at : tie.Need-mul-truth-at
-mul-truth-at c = omega
-    (arith, fits-here (c .before .args .file .now) (c .before .args .at + 1) 16 truthSort (c .before .args .state) (c .before .pre .guard))
+mul-truth-at c = omega (arith, here (c .before .before))
 
 sub-truth-at : tie.Need-sub-truth-at
-sub-truth-at c = omega
-    (arith, fits-here (c .before .args .file .now) (c .before .args .at + 1) 16 truthSort (c .before .args .state) (c .before .pre .guard))
+sub-truth-at c = omega (arith, here (c .before .before))
 
 part-truth-at-start : tie.Need-part-truth-at-start
-part-truth-at-start c = omega
-    (arith, fits-here (c .before .args .file .now) (c .before .args .at + 1) 16 truthSort (c .before .args .state) (c .before .pre .guard))
+part-truth-at-start c = omega (arith, here (c .before .before))
 
 part-truth-at-end : tie.Need-part-truth-at-end
 part-truth-at-end c = search needs
 
+mul-truth-at-2 : tie.Need-mul-truth-at-2
+mul-truth-at-2 c = omega (arith, here (c .before .before .before))
+
+sub-truth-at-2 : tie.Need-sub-truth-at-2
+sub-truth-at-2 c = omega (arith, here (c .before .before .before))
+
+part-truth-at-start-2 : tie.Need-part-truth-at-start-2
+part-truth-at-start-2 c = omega (arith, here (c .before .before .before))
+
+part-truth-at-end-2 : tie.Need-part-truth-at-end-2
+part-truth-at-end-2 c = search needs
+
 truth-at-requires : tie.Need-truth-at-requires
-truth-at-requires c κs = rw (take-rest (8 * (c .before .before .args .at + 1)) (c .before .before .args .file .now)) (c .before .before .pre .guard)
+truth-at-requires c κs = let s = c .before .before .before .before in lent _ _ (s .pre .0) truthSort (s .args .at + 1) _ (s .pre .1 .guard)
 
 returns : tie.Need-returns
-returns c = step-off
-    _ _ _ _ _ (sym (guard-found (c .before .before .before .before .before .args .file .now) (c .before .before .before .before .before .args .at) (c .before .before .before .before .before .args .state) (rw (take-rest (8 * (c .before .before .before .before .before .args .at + 1)) (c .before .before .before .before .before .args .file .now)) at (c .before .before .truth-at .ensures))) ∙ not-true _ (c .if1 .taken))
+unfolding guardOf
+returns c = let s = c .before .before .before .before .before .before in
+    step-off _ _ _ _ _
+    ((rw (take-rest (8 * (s .args .at + 1)) (s .args .file .now)) at (sym (c .before .truth-at .ensures))) ∙ not-true _ (c .if1 .taken))
+
+mul-assign : tie.Need-mul-assign
+mul-assign c = omega (arith, here (c .before .before .before .before .before .before))
+
+shared-slice-read-assign : tie.Need-shared-slice-read-assign
+shared-slice-read-assign c = omega (arith, here (c .before .before .before .before .before .before .before))
+
+cast-assign : tie.Need-cast-assign
+cast-assign c = let s = c .before .before .before .before .before .before .before in omega (arith, here s, end s)
 
 add-assign : tie.Need-add-assign
-add-assign c = omega
-    (arith, behind-within truthSort (c .before .before .before .before .before .before .args .file .now) (c .before .before .before .before .before .before .args .at + 1) (c .before .before .before .before .before .before .args .state) (c .before .before .before .before .before .before .pre .guard), behind-found (c .before .before .before .before .before .before .args .file .now) (c .before .before .before .before .before .before .args .at) (c .before .before .before .before .before .before .args .state) (rw (take-rest (8 * (c .before .before .before .before .before .before .args .at + 1)) (c .before .before .before .before .before .before .args .file .now)) at (c .before .before .before .truth-at .ensures)))
+add-assign c = let s = c .before .before .before .before .before .before .before in omega (arith, here s, end s)
 
 assign-requires : tie.Need-assign-requires
-assign-requires c κs = rw
-    (behind-found (c .before .before .before .before .before .before .args .file .now) (c .before .before .before .before .before .before .args .at) (c .before .before .before .before .before .before .args .state) (rw (take-rest (8 * (c .before .before .before .before .before .before .args .at + 1)) (c .before .before .before .before .before .before .args .file .now)) at (c .before .before .before .truth-at .ensures)))
-    (c .before .before .before .before .before .before .pre .assignments)
+assign-requires c κs = let s = c .before .before .before .before .before .before .before in
+    (s .pre .0, rw (behind-is _ _ (s .pre .0) truthSort (s .args .at + 1) _ (s .pre .1 .guard)) (s .pre .1 .assignments))
 
 returns-2 : tie.Need-returns-2
-returns-2 c = step-on
-    _ _ _ _ _ (sym (guard-found (c .before .before .before .before .before .before .before .before .args .file .now) (c .before .before .before .before .before .before .before .before .args .at) (c .before .before .before .before .before .before .before .before .args .state) (rw (take-rest (8 * (c .before .before .before .before .before .before .before .before .args .at + 1)) (c .before .before .before .before .before .before .before .before .args .file .now)) at (c .before .before .before .before .before .truth-at .ensures))) ∙ not-false _ (c .before .before .before .if1 .left))
-    (rw (behind-found (c .before .before .before .before .before .before .before .before .args .file .now) (c .before .before .before .before .before .before .before .before .args .at) (c .before .before .before .before .before .before .before .before .args .state) (rw (take-rest (8 * (c .before .before .before .before .before .before .before .before .args .at + 1)) (c .before .before .before .before .before .before .before .before .args .file .now)) at (c .before .before .before .before .before .truth-at .ensures))) at (c .before .assign .ensures))
+unfolding guardOf
+returns-2 c = let s = c .before .before .before .before .before .before .before .before .before in
+    step-on _ _ _ _ _
+    ((rw (take-rest (8 * (s .args .at + 1)) (s .args .file .now)) at (sym (c .before .before .before .before .truth-at .ensures))) ∙ not-false _
+    (c .before .before .before .if1 .left))
+    (rw (behind-is _ _ (s .pre .0) truthSort (s .args .at + 1) _ (s .pre .1 .guard)) at (c .before .assign .ensures))
 
 pub step-spec : {M : Type 1} → statement M
 step-spec =
@@ -60,8 +88,15 @@ step-spec =
     sub-truth-at
     part-truth-at-start
     part-truth-at-end
+    mul-truth-at-2
+    sub-truth-at-2
+    part-truth-at-start-2
+    part-truth-at-end-2
     truth-at-requires
     returns
+    mul-assign
+    shared-slice-read-assign
+    cast-assign
     add-assign
     assign-requires
     returns-2)

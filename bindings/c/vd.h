@@ -1,0 +1,50 @@
+/* The verification diagram checker, proved in Rattle, for C (x86-64 Linux): link target/staticlib/libvdlib.a, which `rt staticlib vdlib` writes.
+
+       uint8_t report[VD_REPORT];
+       struct vd_verdict verdict = vd_check(file, length, report, sizeof report);
+       if (verdict.number == 0)
+           printf("accepted, %u conditions\n", (unsigned) verdict.at);
+
+   example.c is a whole program. */
+#ifndef VD_H
+#define VD_H
+
+#include <stdbool.h>
+#include <stddef.h>
+#include <stdint.h>
+
+#ifdef __cplusplus
+extern "C" {
+#endif
+
+/* The bytes of a report. */
+#define VD_REPORT 32
+
+/* The check's result, with the fields of the report. */
+struct vd_verdict {
+    uint8_t number;     /* 0 for an accepted file, else the refusal's number */
+    uint8_t node;       /* the broken condition's node, 255 for none */
+    uint8_t transition; /* and its transition */
+    uint32_t at;        /* the broken condition, the refusal's place, or for 0 how many conditions there are */
+    int16_t values[12]; /* the state that breaks the condition, else zeros */
+};
+
+/* What a single test answers. */
+struct vd_tested {
+    size_t number; /* 0 if the test was made, else the refusal's number */
+    size_t place;  /* the refusal's place */
+    bool holds;    /* whether the condition holds at the state; false in a refusal */
+};
+
+/* Checks the file, and writes the report to the first 32 bytes of the buffer, which must not overlap the file. With less room the number is 1, and
+   nothing is written. Neither pointer may be null, even with a length of 0. */
+struct vd_verdict vd_check(const uint8_t *file, size_t length, uint8_t *report, size_t room);
+
+/* Tests one condition at one state, by their numbers. */
+struct vd_tested vd_single(const uint8_t *file, size_t length, size_t condition, size_t state);
+
+#ifdef __cplusplus
+}
+#endif
+
+#endif

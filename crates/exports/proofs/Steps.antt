@@ -1,2 +1,0 @@
--- What the proofs of the code share.
-pub mod Starting

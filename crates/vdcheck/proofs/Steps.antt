@@ -1,0 +1,2 @@
+-- What the proof of a loop needs.
+pub mod Printing

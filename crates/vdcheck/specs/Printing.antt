@@ -1,0 +1,24 @@
+-- "A program reads the file from standard input and prints the report as 64 small hexadecimal digits and a line feed."
+use Prim.Native.Nat.{ℕ, _+_, _-_, _/_, _%_}
+use mathlib.Core.Bool.{cond}
+use mathlib.Core.List.{List, [], _∷_, _++_}
+use lib.Dec.{ltb}
+use lib.ListN.{replicate}
+use Rattle.judging.specs.Verdict.{checkOf}
+use Rattle.judging.specs.Report.{reportOf}
+
+-- 0 to 9, then a to f, in ASCII
+unfoldable pub digitOf : ℕ → ℕ
+digitOf number = cond (ltb number 10) (number + 48) (number + 87)
+
+-- two digits for each byte, the high one first
+unfoldable pub digitsOf : List ℕ → List ℕ
+digitsOf [] = []
+digitsOf (byte ∷ bytes) = digitOf (byte / 16) ∷ (digitOf (byte % 16) ∷ digitsOf bytes)
+
+unfoldable pub lineOf : List ℕ → List ℕ
+lineOf report = digitsOf report ++ (10 ∷ [])
+
+-- the check's report on the file, in a buffer of 32 bytes
+unfoldable pub printedOf : List ℕ → List ℕ
+printedOf file = lineOf (reportOf (checkOf file 32) (replicate 32 0))

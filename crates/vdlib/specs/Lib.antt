@@ -1,0 +1,2 @@
+-- What the library answers.
+pub mod Tested

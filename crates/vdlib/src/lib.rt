@@ -1,0 +1,50 @@
+// The library for C and Rust: the check and the single test over plain bytes, whose answers are plain numbers.
+use judging::report::Verdict;
+use judging::verdicts::Single;
+ghost use mathlib.Core.Path.{_≡_};
+ghost use lib.ListN.{length};
+ghost use Rattle.judging.specs.Verdict.{checkOf, singleOf};
+ghost use Rattle.judging.specs.Report.{reportOf};
+ghost use Rattle.judging.specs.System.{Claim};
+ghost use Rattle.vdlib.specs.Tested.{testedOf};
+
+// `number` is 0 if the condition is tested, and `holds` tells whether it holds at the state; else it is the refusal's, with its place.
+#[repr(C)]
+pub struct Tested {
+    pub number: usize,
+    pub place: usize,
+    pub holds: bool,
+}
+
+#[no_mangle]
+pub extern "C" fn vd_check(file: &[u8], report: &mut [u8]) -> Verdict
+    ensures result { λ r. ⌜ r ≡ checkOf (now (file .entry)) (length (now (report .entry))) ⌝ }
+    ensures report { λ r. ⌜ now (report .exit) ≡ reportOf r (now (report .entry)) ⌝ }
+    ensures claim { λ r. ⌜ (r .number ≡ 0 → Claim (now (file .entry))) ⌝ }
+{
+    judging::check(file, report)
+}
+
+#[no_mangle]
+pub extern "C" fn vd_single(file: &[u8], condition: usize, state: usize) -> Tested
+    ensures { λ r. ⌜ r ≡ testedOf (singleOf (now (file .entry)) condition state) ⌝ }
+{
+    let found = judging::single(file, condition, state);
+    match found {
+        Single::Refused(number, place) => Tested {
+            number: number as usize,
+            place,
+            holds: false,
+        },
+        Single::Holds => Tested {
+            number: 0,
+            place: 0,
+            holds: true,
+        },
+        Single::Fails => Tested {
+            number: 0,
+            place: 0,
+            holds: false,
+        },
+    }
+}

@@ -1,0 +1,142 @@
+//! A file with what is asked about it, and what the two checkers answer.
+
+use crate::generate::{self, Random};
+use independent::{Claim, Condition, File, Refusal, Tested, Verdict};
+
+/// The whole check is compared on files with at most this many tests: conditions times states.
+pub const TESTS: usize = 100_000;
+
+/// How a file is read by the independent implementation.
+pub struct Facts {
+    pub reading: Result<File, Refusal>,
+    /// None in an unreadable file, as are the states.
+    pub conditions: Vec<Condition>,
+    pub states: usize,
+}
+
+impl Facts {
+    pub fn of(file: &[u8]) -> Facts {
+        let reading = independent::read(file);
+        let (conditions, states) = match &reading {
+            Ok(file) => (file.conditions(), file.states()),
+            Err(_) => (Vec::new(), 0),
+        };
+        Facts {
+            reading,
+            conditions,
+            states,
+        }
+    }
+
+    pub fn tests(&self) -> usize {
+        self.conditions.len().saturating_mul(self.states)
+    }
+
+    /// The property's a; 0 in an unreadable file.
+    pub fn property(&self) -> usize {
+        match &self.reading {
+            Ok(file) => match file.claim {
+                Claim::Invariance { .. } => 1,
+                Claim::WaitFor { .. } => 2,
+                Claim::Chain { .. } => 3,
+            },
+            Err(_) => 0,
+        }
+    }
+}
+
+/// A file and what is asked about it.
+#[derive(Clone)]
+pub struct Case {
+    pub file: Vec<u8>,
+    /// The report buffer, and behind it bytes that must stay as they are.
+    pub bytes: Vec<u8>,
+    pub room: usize,
+    /// Whether the check is asked for.
+    pub check: bool,
+    /// Conditions and states of single tests.
+    pub singles: Vec<(usize, usize)>,
+}
+
+#[derive(Debug, PartialEq)]
+pub struct Answers {
+    /// The verdict, and the bytes afterwards.
+    pub check: Option<(Verdict, Vec<u8>)>,
+    pub singles: Vec<Tested>,
+}
+
+impl Case {
+    /// Asks for a check with a random buffer, unless it takes too long, and for single tests.
+    pub fn random(random: &mut Random, file: Vec<u8>, facts: &Facts) -> Case {
+        let (bytes, room) = generate::buffer(random);
+        let count = match facts.tests() {
+            0 => 1,
+            1..=TESTS => 3,
+            _ => 8,
+        };
+        let single = |_| {
+            let condition = generate::number(random, facts.conditions.len());
+            (condition, generate::number(random, facts.states))
+        };
+        Case {
+            file,
+            bytes,
+            room,
+            check: room < 32 || facts.tests() <= TESTS,
+            singles: (0..count).map(single).collect(),
+        }
+    }
+
+    pub fn independent(&self) -> Answers {
+        Answers {
+            check: self.checked(independent::check),
+            singles: self.tested(independent::single),
+        }
+    }
+
+    pub fn proved(&self) -> Answers {
+        Answers {
+            check: self.checked(proved_check),
+            singles: self.tested(proved_single),
+        }
+    }
+
+    pub fn checked(&self, check: fn(&[u8], &mut [u8]) -> Verdict) -> Option<(Verdict, Vec<u8>)> {
+        self.check.then(|| {
+            let mut bytes = self.bytes.clone();
+            let verdict = check(&self.file, &mut bytes[..self.room]);
+            (verdict, bytes)
+        })
+    }
+
+    pub fn tested(&self, single: fn(&[u8], usize, usize) -> Tested) -> Vec<Tested> {
+        let singles = self.singles.iter();
+        let tested = singles.map(|&(condition, state)| single(&self.file, condition, state));
+        tested.collect()
+    }
+
+    pub fn differs(&self) -> bool {
+        self.proved() != self.independent()
+    }
+}
+
+/// The proved check, its result in the other's type.
+pub fn proved_check(file: &[u8], report: &mut [u8]) -> Verdict {
+    let verdict = vd::check_into(file, report);
+    Verdict {
+        number: verdict.number,
+        node: verdict.node,
+        transition: verdict.transition,
+        at: verdict.at,
+        values: verdict.values,
+    }
+}
+
+/// The proved single test, likewise.
+pub fn proved_single(file: &[u8], condition: usize, state: usize) -> Tested {
+    match vd::single(file, condition, state) {
+        Ok(true) => Tested::Holds,
+        Ok(false) => Tested::Fails,
+        Err(vd::Refusal { number, place }) => Tested::Refused { number, place },
+    }
+}

@@ -1,0 +1,417 @@
+//! Files at each limit and one past it, with how they must be read.
+
+use crate::generate::{
+    constant, join, plain, record, truth_of_size, value, Code, Draft, Edge, Random, Record,
+    Transition, CHAIN, INVARIANCE, RECORDS, WAIT_FOR,
+};
+
+pub struct Limit {
+    pub name: String,
+    pub file: Vec<u8>,
+    /// The refusal's number and place; nothing if the file is readable.
+    pub refusal: Option<(u8, u32)>,
+}
+
+pub fn cases() -> Vec<Limit> {
+    let mut list = List(Vec::new());
+    variables(&mut list);
+    transitions(&mut list);
+    nodes(&mut list);
+    edges(&mut list);
+    records(&mut list);
+    levels(&mut list);
+    states(&mut list);
+    intervals(&mut list);
+    list.0
+}
+
+struct List(Vec<Limit>);
+
+impl List {
+    fn readable(&mut self, name: &str, records: Vec<Record>) {
+        self.add(name, records.concat(), None);
+    }
+
+    fn refused(&mut self, name: &str, records: Vec<Record>, number: u8, place: usize) {
+        self.add(name, records.concat(), Some((number, place as u32)));
+    }
+
+    fn add(&mut self, name: &str, file: Vec<u8>, refusal: Option<(u8, u32)>) {
+        let name = name.to_string();
+        self.0.push(Limit {
+            name,
+            file,
+            refusal,
+        });
+    }
+}
+
+fn always() -> Code {
+    vec![plain(0x20)]
+}
+
+/// One variable in 0..1, no transitions, and everything true. Its records: 0 variable, 1 start,
+/// 2 true, then transitions, property, truths, nodes.
+fn draft(property: u8, nodes: usize) -> Draft {
+    let truths = match property {
+        INVARIANCE => 1,
+        WAIT_FOR => nodes + 1,
+        _ => 2,
+    };
+    Draft {
+        ranges: vec![(0, 1)],
+        start: always(),
+        transitions: Vec::new(),
+        property,
+        b: if property == WAIT_FOR {
+            nodes as i16
+        } else {
+            0
+        },
+        truths: vec![always(); truths],
+        nodes: vec![always(); nodes],
+        edges: Vec::new(),
+    }
+}
+
+/// Just, with a true guard and no assignment: two records.
+fn idle() -> Transition {
+    Transition {
+        just: true,
+        guard: always(),
+        assignments: Vec::new(),
+    }
+}
+
+/// A double edge from each node to node 0, as a chain needs them.
+fn double_edges(nodes: usize) -> Vec<Edge> {
+    let edge = |from| Edge {
+        transition: 0,
+        from,
+        to: 0,
+        double: true,
+    };
+    (1..nodes).map(edge).collect()
+}
+
+/// The records with a field set that a kind doesn't name.
+fn with_field(mut records: Vec<Record>, place: usize) -> Vec<Record> {
+    records[place][7] = 1;
+    records
+}
+
+fn variables(list: &mut List) {
+    let variables = |count| {
+        let mut draft = draft(INVARIANCE, 1);
+        draft.ranges = vec![(-5, -4); count];
+        draft.records()
+    };
+    list.readable("12 variables", variables(12));
+    list.refused("13 variables", variables(13), 5, 12);
+    list.refused("field of variable 13", with_field(variables(13), 12), 4, 12);
+}
+
+fn transitions(list: &mut List) {
+    for property in [INVARIANCE, WAIT_FOR, CHAIN] {
+        let transitions = |count| {
+            let mut draft = draft(property, 1);
+            draft.transitions = vec![idle(); count];
+            draft.records()
+        };
+        let name = |text| format!("{text}, property {property}");
+        list.readable(&name("32 transitions"), transitions(32));
+        let place = 3 + 2 * 32;
+        list.refused(&name("33 transitions"), transitions(33), 5, place);
+        let bad = with_field(transitions(33), place);
+        list.refused(&name("field of transition 33"), bad, 4, place);
+    }
+}
+
+fn nodes(list: &mut List) {
+    let invariance = |count| draft(INVARIANCE, count).records();
+    let chain = |count| {
+        let mut draft = draft(CHAIN, count);
+        draft.transitions = vec![idle()];
+        draft.edges = double_edges(count);
+        draft.records()
+    };
+    for (name, file, first) in [
+        (
+            "invariance",
+            &invariance as &dyn Fn(usize) -> Vec<Record>,
+            5,
+        ),
+        ("chain", &chain, 8),
+    ] {
+        let name = |text| format!("{text}, {name}");
+        list.readable(&name("1 node"), file(1));
+        list.readable(&name("32 nodes"), file(32));
+        let place = first + 2 * 32;
+        list.refused(&name("33 nodes"), file(33), 5, place);
+        let bad = with_field(file(33), place);
+        list.refused(&name("field of node 33"), bad, 4, place);
+        let mut none = file(1);
+        none.truncate(first);
+        list.refused(&name("no node"), none, 3, first);
+    }
+    for b in [1, 2, 3, 31, 32] {
+        let nodes = |count| {
+            let mut draft = draft(WAIT_FOR, b);
+            draft.nodes = vec![always(); count];
+            draft.records()
+        };
+        let name = |text| format!("{text}, wait-for of {b}");
+        list.readable(&name("b nodes"), nodes(b));
+        // Variable, start and its truth, property, b + 1 truths, b nodes.
+        let place = 4 + (b + 1) + 2 * b;
+        list.refused(&name("b + 1 nodes"), nodes(b + 1), 5, place);
+        let bad = with_field(nodes(b + 1), place);
+        list.refused(&name("field of node b + 1"), bad, 4, place);
+        list.refused(&name("b - 1 nodes"), nodes(b - 1), 3, place - 2);
+    }
+    for b in [-32768, -1, 0, 33, 257, 32767] {
+        let mut draft = draft(WAIT_FOR, b.clamp(0, 33) as usize);
+        draft.b = b;
+        list.refused(&format!("wait-for of {b}"), draft.records(), 4, 3);
+    }
+}
+
+fn edges(list: &mut List) {
+    let edges = |count| {
+        let mut draft = draft(INVARIANCE, 32);
+        draft.transitions = vec![idle(); 2];
+        let edge = |number: usize| Edge {
+            transition: number % 2,
+            from: number / 64,
+            to: number / 2 % 32,
+            double: false,
+        };
+        draft.edges = (0..count).map(edge).collect();
+        draft.records()
+    };
+    list.readable("512 edges", edges(512));
+    // Behind a variable, start, two transitions, property, each with a truth, and 32 nodes.
+    let place = 1 + 2 + 4 + 2 + 64 + 512;
+    list.refused("513 edges", edges(513), 5, place);
+    let mut repeat = edges(513);
+    repeat[place] = repeat[place - 1];
+    list.refused("edge 513 repeats", repeat, 5, place);
+    let bad = with_field(edges(513), place);
+    list.refused("field of edge 513", bad, 4, place);
+    let mut repeat = edges(512);
+    repeat[place - 1] = repeat[place - 512];
+    list.refused("edge 512 repeats", repeat, 6, place - 1);
+}
+
+fn records(list: &mut List) {
+    let records = |count| {
+        let mut draft = draft(INVARIANCE, 1);
+        let others = draft.records().len() - 1;
+        draft.start = truth_of_size(&mut Random::new(0, 0), count - others);
+        draft.records()
+    };
+    list.readable("4095 records", records(RECORDS - 1));
+    list.readable("4096 records", records(RECORDS));
+    list.refused("4097 records", records(RECORDS + 1), 2, 0);
+    let file = [records(RECORDS).concat(), vec![0]].concat();
+    list.add("4096 records and a byte", file, Some((2, 0)));
+}
+
+/// A truth of so many levels.
+fn nested_truth(levels: usize) -> Code {
+    [vec![plain(0x22); levels - 1], always()].concat()
+}
+
+/// A number of so many levels, by left or by right operands.
+fn nested_number(levels: usize, left: bool) -> Code {
+    let mut number = vec![constant(0)];
+    for _ in 1..levels {
+        let operands = match left {
+            true => [number, vec![constant(0)]],
+            false => [vec![constant(0)], number],
+        };
+        number = join(0x12, &[&operands[0], &operands[1]]);
+    }
+    number
+}
+
+fn levels(list: &mut List) {
+    // Where a truth may stand, by the number of its first record.
+    type Place = fn(&mut Draft) -> &mut Code;
+    let truths: [(&str, Place, usize); 5] = [
+        ("start", |draft| &mut draft.start, 2),
+        ("guard", |draft| &mut draft.transitions[0].guard, 4),
+        ("p", |draft| &mut draft.truths[0], 8),
+        ("q", |draft| &mut draft.truths[1], 9),
+        ("node", |draft| &mut draft.nodes[0], 11),
+    ];
+    let draft = || {
+        let mut draft = draft(CHAIN, 1);
+        let assignments = vec![(0, vec![constant(0)])];
+        draft.transitions = vec![Transition {
+            assignments,
+            ..idle()
+        }];
+        draft
+    };
+    for (name, place, at) in truths {
+        let with = |code: Code| {
+            let mut draft = draft();
+            *place(&mut draft) = code;
+            draft.records()
+        };
+        let name = |text| format!("{text}, {name}");
+        list.readable(&name("16 levels"), with(nested_truth(16)));
+        list.refused(&name("17 levels"), with(nested_truth(17)), 5, at + 16);
+        let bad = with_field(with(nested_truth(17)), at + 16);
+        list.refused(&name("field at level 17"), bad, 4, at + 16);
+        let mut bad = with(nested_truth(17));
+        bad[at + 16] = constant(0);
+        list.refused(&name("number for truth at level 17"), bad, 3, at + 16);
+        // An indicator in between: the number's levels count on.
+        for levels in [16, 17] {
+            let inside = join(0x15, &[&nested_truth(levels - 2)]);
+            let records = with(join(0x27, &[&vec![constant(0)], &inside]));
+            match levels {
+                16 => list.readable(&name("16 levels, indicator"), records),
+                _ => list.refused(&name("17 levels, indicator"), records, 5, at + 17),
+            }
+        }
+    }
+    for left in [true, false] {
+        let with = |number: Code| {
+            let mut draft = draft();
+            draft.transitions[0].assignments[0].1 = number;
+            draft.records()
+        };
+        // The first record at level 17: each level has one record to the left, or two.
+        let at = 6 + if left { 16 } else { 31 };
+        let name = |text| format!("{text}, left {left}");
+        let number = |levels| nested_number(levels, left);
+        list.readable(&name("number of 16 levels"), with(number(16)));
+        list.refused(&name("number of 17 levels"), with(number(17)), 5, at);
+        let bad = with_field(with(number(17)), at);
+        list.refused(&name("field of a number at level 17"), bad, 4, at);
+        let mut bad = with(number(17));
+        bad[at] = plain(0x21);
+        list.refused(&name("truth for number at level 17"), bad, 3, at);
+    }
+}
+
+fn states(list: &mut List) {
+    let widest = (i16::MIN, i16::MAX);
+    let states = |ranges: &[(i16, i16)]| {
+        let mut draft = draft(INVARIANCE, 1);
+        draft.ranges = ranges.to_vec();
+        draft.records()
+    };
+    list.readable("1023 × 1025 states", states(&[(0, 1022), (0, 1024)]));
+    list.readable("1024 × 1024 states", states(&[(0, 1023), (0, 1023)]));
+    list.readable("65,536 × 16 states", states(&[widest, (1, 16), (7, 7)]));
+    let many = [(-1, 0); 10];
+    list.readable(
+        "2 to the 10, × 1024",
+        states(&[&many[..], &[(-1023, 0)]].concat()),
+    );
+    let one_more = [(0, 16), (-30_000, 31_680), (0, 1)];
+    list.refused("1,048,577 states", states(&one_more), 7, 1);
+    list.refused("1024 × 1025 states", states(&[(0, 1023), (0, 1024)]), 7, 1);
+    let later = [(0, 1), widest, (0, 7), (0, 1), (0, 1)];
+    list.refused("twice as many states", states(&later), 7, 3);
+    list.refused("2 to the 48 states", states(&[widest; 3]), 7, 1);
+}
+
+/// Intervals that end at a bound, and one past it.
+fn intervals(list: &mut List) {
+    // A number is compared with 0 in the start; its first record is record 3.
+    let start = |number: Code| {
+        let mut draft = draft(INVARIANCE, 1);
+        draft.ranges = vec![(-1, 3)];
+        draft.start = join(0x27, &[&number, &vec![constant(0)]]);
+        draft.records()
+    };
+    let variable = vec![record(0x11, 0, 0, 0, 0)];
+    let five = |sign: i64| value(5 * sign);
+    for sign in [-1, 1] {
+        let bound = 1_000_000 * sign;
+        for past in [0, 1] {
+            let end = bound + past * sign;
+            let factors: (i16, i16) = if past == 0 { (1000, 1000) } else { (101, 9901) };
+            let factor = vec![constant(factors.0 * sign as i16)];
+            // The variable's ends are -1 and 3, so that it counts for 3 or -1 at the end.
+            let (added, taken) = if sign > 0 { (3, -1) } else { (-1, 3) };
+            for (name, number) in [
+                ("sum", join(0x12, &[&value(end - 5 * sign), &five(sign)])),
+                (
+                    "sum, swapped",
+                    join(0x12, &[&five(sign), &value(end - 5 * sign)]),
+                ),
+                (
+                    "difference",
+                    join(0x13, &[&value(end - 5 * sign), &five(-sign)]),
+                ),
+                (
+                    "difference, swapped",
+                    join(0x13, &[&five(sign), &value(5 * sign - end)]),
+                ),
+                (
+                    "product",
+                    join(0x14, &[&factor, &vec![constant(factors.1)]]),
+                ),
+                (
+                    "sum with a variable",
+                    join(0x12, &[&variable, &value(end - added)]),
+                ),
+                (
+                    "difference with a variable",
+                    join(0x13, &[&value(end + taken), &variable]),
+                ),
+            ] {
+                let name = format!("{name}, {end}");
+                match past {
+                    0 => list.readable(&name, start(number)),
+                    _ => list.refused(&name, start(number), 8, 3),
+                }
+            }
+        }
+        // An indicator's interval is 0..1, whatever its truth.
+        for truth in [0x20, 0x21] {
+            let indicator = join(0x15, &[&vec![plain(truth)]]);
+            let (outward, inward) = if sign > 0 { (0x12, 0x13) } else { (0x13, 0x12) };
+            let with = |kind, end| start(join(kind, &[&value(end), &indicator]));
+            let name = |text| format!("{text} an indicator of {truth:x}, {bound}");
+            list.readable(&name("up to the bound by"), with(outward, bound - sign));
+            list.refused(&name("past the bound by"), with(outward, bound), 8, 3);
+            list.readable(&name("back from the bound by"), with(inward, bound));
+            // Less 1 it is -1..0, or 0..1 the other way round.
+            let pair = [indicator.clone(), vec![constant(1)]];
+            let [left, right] = if sign > 0 { [1, 0] } else { [0, 1] };
+            let other = join(0x13, &[&pair[left], &pair[right]]);
+            let past = start(join(0x12, &[&value(bound), &other]));
+            list.refused(&name("past the bound by 1 and"), past, 8, 3);
+        }
+    }
+    // A product's least and greatest results may come from any two ends.
+    let low_high = [(-1000, 1), (-1, 1001)];
+    for (ranges, out) in [
+        (low_high, true),
+        ([low_high[1], low_high[0]], true),
+        ([(-1001, 1), (-1000, 1)], true),
+        ([(-1, 1001), (-1, 1000)], true),
+        ([(-1000, 1), (-1, 1000)], false),
+        ([(-1, 1000), (-1000, 1)], false),
+        ([(-1000, 1), (-1000, 1)], false),
+        ([(-1, 1000), (-1, 1000)], false),
+    ] {
+        let mut draft = draft(INVARIANCE, 1);
+        draft.ranges = ranges.to_vec();
+        let product = join(0x14, &[&variable, &vec![record(0x11, 1, 0, 0, 0)]]);
+        draft.start = join(0x27, &[&product, &vec![constant(0)]]);
+        let name = format!("product of {ranges:?}");
+        // Behind two variables, the start and its comparison.
+        match out {
+            true => list.refused(&name, draft.records(), 8, 4),
+            false => list.readable(&name, draft.records()),
+        }
+    }
+}

@@ -1,0 +1,185 @@
+//! What came up in the compared files.
+
+use crate::compare::{Answers, Case, Facts};
+use crate::situations::{self, SITUATIONS};
+use independent::Tested;
+use std::collections::HashSet;
+
+/// Coverage is asserted of runs with at least so many random files.
+pub const FILES: u64 = 200_000;
+/// Every answer must come up this often in that many files.
+const OFTEN: u64 = 100;
+/// Every situation must.
+const SELDOM: u64 = 10;
+
+const PROPERTIES: [&str; 4] = ["none", "invariance", "wait-for", "chain"];
+/// The numbers of broken conditions, with the properties that have such conditions.
+const CONDITIONS: [(usize, &str, &[usize]); 6] = [
+    (13, "start", &[1]),
+    (14, "entry", &[2, 3]),
+    (15, "cover", &[1, 2, 3]),
+    (16, "range", &[1, 2, 3]),
+    (17, "step", &[1, 2, 3]),
+    (18, "enabling", &[3]),
+];
+/// Numbers given to a single test.
+const EDGES: [&str; 5] = ["0", "the last", "one past", "the greatest usize", "2^32 up"];
+
+pub struct Tally {
+    /// Checks by number and property; 0 for the property of an unreadable file, and for number 1.
+    checks: [[u64; 4]; 19],
+    /// The places of refusals by number.
+    places: Vec<HashSet<u32>>,
+    /// Checks by the buffer's length.
+    rooms: [u64; 65],
+    /// Single tests that are refused, by number.
+    refused: [u64; 19],
+    /// Single tests that fail and that hold, by number and property of the condition.
+    tested: [[[u64; 4]; 19]; 2],
+    /// Conditions and states of single tests of readable files.
+    edges: [[u64; 5]; 2],
+    situations: Vec<u64>,
+    /// Readable files that have too many tests for the whole check.
+    singles_only: u64,
+}
+
+impl Default for Tally {
+    fn default() -> Tally {
+        Tally {
+            checks: [[0; 4]; 19],
+            places: vec![HashSet::new(); 19],
+            rooms: [0; 65],
+            refused: [0; 19],
+            tested: [[[0; 4]; 19]; 2],
+            edges: [[0; 5]; 2],
+            situations: vec![0; SITUATIONS.len()],
+            singles_only: 0,
+        }
+    }
+}
+
+impl Tally {
+    pub fn count(&mut self, case: &Case, facts: &Facts, answers: &Answers) {
+        let property = facts.property();
+        match &answers.check {
+            Some((verdict, _)) => {
+                let property = if verdict.number == 1 { 0 } else { property };
+                let number = usize::from(verdict.number);
+                self.checks[number][property] += 1;
+                self.places[number].insert(verdict.at);
+                self.rooms[case.room] += 1;
+            }
+            None => self.singles_only += 1,
+        }
+        for (&(condition, state), tested) in case.singles.iter().zip(&answers.singles) {
+            match tested {
+                Tested::Refused { number, .. } => self.refused[usize::from(*number)] += 1,
+                Tested::Fails | Tested::Holds => {
+                    let counts = &mut self.tested[usize::from(*tested == Tested::Holds)];
+                    let number = facts.conditions[condition].number();
+                    counts[usize::from(number)][property] += 1;
+                }
+            }
+            if property > 0 {
+                edge(&mut self.edges[0], condition, facts.conditions.len());
+                edge(&mut self.edges[1], state, facts.states);
+            }
+        }
+        for name in situations::of(&case.file, facts) {
+            let at = SITUATIONS.iter().position(|one| *one == name);
+            self.situations[at.expect("a situation of the list")] += 1;
+        }
+    }
+
+    /// What must have come up so often.
+    pub fn tests(&self, files: u64) -> Vec<(String, bool)> {
+        let [often, seldom] = [OFTEN, SELDOM].map(|least| least * files / FILES);
+        let mut tests = Vec::new();
+        let mut least = |name: String, count: u64, least: u64| {
+            let name = format!("{name}: {count}, at least {least}");
+            tests.push((name, count >= least));
+        };
+        for number in (0..=10).chain(13..=18) {
+            let count = self.checks[number].iter().sum();
+            least(format!("checks of number {number}"), count, often);
+        }
+        for number in 2..=12 {
+            let name = format!("single tests of number {number}");
+            least(name, self.refused[number], often);
+        }
+        for (property, name) in PROPERTIES.iter().enumerate().skip(1) {
+            let count = self.checks[0][property];
+            least(format!("accepted, {name}"), count, often);
+        }
+        for (number, condition, properties) in CONDITIONS {
+            for &property in properties {
+                let name = format!("{condition}, {}", PROPERTIES[property]);
+                let broken = self.checks[number][property];
+                least(format!("{name}: broken"), broken, often);
+                for (counts, what) in self.tested.iter().zip(["fails", "holds"]) {
+                    let count = counts[number][property];
+                    least(format!("{name}: {what} in single tests"), count, often);
+                }
+            }
+        }
+        for (room, &count) in self.rooms.iter().enumerate() {
+            least(format!("buffers of {room} bytes"), count, often);
+        }
+        for (counts, of) in self.edges.iter().zip(["condition", "state"]) {
+            for (&count, number) in counts.iter().zip(EDGES) {
+                let name = format!("single tests of {of} number {number}");
+                least(name, count, often);
+            }
+        }
+        for (&count, name) in self.situations.iter().zip(SITUATIONS) {
+            least(name.to_string(), count, seldom);
+        }
+        least("single tests only".to_string(), self.singles_only, often);
+        tests
+    }
+
+    pub fn print(&self) {
+        println!("number    none  invariance  wait-for   chain   places");
+        for (number, counts) in self.checks.iter().enumerate() {
+            let [none, invariance, wait_for, chain] = counts;
+            let places = self.places[number].len();
+            if counts.iter().sum::<u64>() > 0 {
+                println!("{number:6} {none:7} {invariance:11} {wait_for:9} {chain:7} {places:8}");
+            }
+        }
+        println!(
+            "in {} files more the check is left out, for its many tests",
+            self.singles_only
+        );
+        println!("single tests, refused");
+        for (number, &count) in self.refused.iter().enumerate() {
+            if count > 0 {
+                println!("{number:6} {count:7}");
+            }
+        }
+        for (counts, what) in self.tested.iter().zip(["fail", "hold"]) {
+            println!("that {what}         invariance  wait-for   chain");
+            for (number, _, _) in CONDITIONS {
+                let [_, invariance, wait_for, chain] = counts[number];
+                println!("{number:6} {invariance:19} {wait_for:9} {chain:7}");
+            }
+        }
+        println!("situations");
+        for (count, name) in self.situations.iter().zip(SITUATIONS) {
+            println!("{count:6} {name}");
+        }
+    }
+}
+
+fn edge(counts: &mut [u64; 5], number: usize, limit: usize) {
+    let found = [
+        number == 0,
+        number.wrapping_add(1) == limit,
+        number == limit,
+        number == usize::MAX,
+        (1 << 32..usize::MAX).contains(&number),
+    ];
+    for (count, found) in counts.iter_mut().zip(found) {
+        *count += u64::from(found);
+    }
+}

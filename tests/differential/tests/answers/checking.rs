@@ -1,0 +1,382 @@
+//! Verdicts, reports and single tests.
+
+use super::examples::example;
+use super::{answers, report, tests, unnamed, Records, CHECKERS};
+use differential::generate::record;
+use independent::{Tested, Verdict};
+
+fn r(kind: u8, a: u8) -> [u8; 8] {
+    record(kind, a, 0, 0, 0)
+}
+
+fn constant(value: i16) -> [u8; 8] {
+    record(0x10, 0, value, 0, 0)
+}
+
+/// Compares variable 0 with a constant.
+fn compare(kind: u8, value: i16) -> Records {
+    vec![r(kind, 0), r(0x11, 0), constant(value)]
+}
+
+fn equal(value: i16) -> Records {
+    compare(0x27, value)
+}
+
+fn always() -> Records {
+    vec![r(0x20, 0)]
+}
+
+/// A transition of variable 0: just or not, its guard, and what is added.
+fn step(just: u8, guard: &Records, added: i16) -> Records {
+    let assigned = [r(0x04, 0), r(0x12, 0), r(0x11, 0), constant(added)];
+    [vec![r(0x03, just)], guard.clone(), assigned.to_vec()].concat()
+}
+
+/// A file: the range of variable 0, the start, transitions, the property with its a, b and truths,
+/// the nodes, and edges: transition, from, to, d.
+fn file(
+    range: (i16, i16),
+    start: Records,
+    transitions: &[Records],
+    property: (u8, i16, &[Records]),
+    nodes: &[Records],
+    edges: &[(u8, i16, i16, u8)],
+) -> Vec<u8> {
+    let (a, b, truths) = property;
+    let mut records = vec![record(0x01, 0, range.0, range.1, 0), r(0x02, 0)];
+    records.extend(start);
+    records.extend(transitions.concat());
+    records.push(record(0x05, a, b, 0, 0));
+    records.extend(truths.concat());
+    for node in nodes {
+        records.push(r(0x06, 0));
+        records.extend(node);
+    }
+    for &(transition, from, to, d) in edges {
+        records.push(record(0x07, transition, from, to, d));
+    }
+    records.concat()
+}
+
+/// A broken condition: number, node, transition, condition, and the value of variable 0.
+#[track_caller]
+fn broken(file: &[u8], number: u8, node: u8, transition: u8, at: u32, value: i16) {
+    let mut values = [0; 12];
+    values[0] = value;
+    let expected = Verdict {
+        number,
+        node,
+        transition,
+        at,
+        values,
+    };
+    answers(file, expected);
+}
+
+#[track_caller]
+fn accepted(file: &[u8], total: u32) {
+    answers(file, unnamed(0, total));
+}
+
+/// Whether the condition holds, state by state.
+#[track_caller]
+fn holds(file: &[u8], condition: usize, expected: &[bool]) {
+    for (state, &holds) in expected.iter().enumerate() {
+        let expected = if holds { Tested::Holds } else { Tested::Fails };
+        tests(file, condition, state, expected);
+    }
+}
+
+#[track_caller]
+fn single_refused(file: &[u8], condition: usize, state: usize, number: u8, place: u32) {
+    tests(file, condition, state, Tested::Refused { number, place });
+}
+
+#[test]
+fn examples() {
+    // "A: 17, report 1100000003000000 0100, then 22 zero bytes"; of the others document 01 gives
+    // the number and what else is named. F and I name the record of their edge, as 9 does.
+    for (name, first_bytes) in [
+        ("A", "1100000003000000 0100"),
+        ("B", "00ffff0004000000"),
+        ("C", "1000000002000000 0200"),
+        ("D", "00ffff0008000000"),
+        ("E", "1102000006000000"),
+        ("F", "09ffff001e000000"),
+        ("G", "0affff0002000000"),
+        ("H", "00ffff0008000000"),
+        ("I", "09ffff0028000000"),
+        ("J", "00ffff0004000000"),
+        ("no bytes", "03ffff0000000000"),
+        ("7 bytes", "02ffff0000000000"),
+        ("0..1023 twice", "00ffff0002000000"),
+        ("0..1023 and 0..1024", "07ffff0001000000"),
+        ("1000 × 1000", "00ffff0002000000"),
+        ("1000 × 1001", "08ffff0003000000"),
+    ] {
+        let file = example(name);
+        let expected = format!("{:0<64}", first_bytes.replace(' ', ""));
+        for (checker, check, _) in CHECKERS {
+            let mut bytes = [0xa5; 32];
+            let verdict = check(&file, &mut bytes);
+            let printed: String = bytes.iter().map(|byte| format!("{byte:02x}")).collect();
+            assert_eq!(printed, expected, "{name}, {checker}");
+            assert_eq!(report(&verdict), bytes, "{name}, {checker}");
+        }
+    }
+}
+
+/// The repository's examples, each with the report that its text gives.
+#[test]
+fn samples() {
+    let mut checked = 0;
+    for (name, file) in differential::samples() {
+        // Takes minutes.
+        if name == "pages-largest" {
+            continue;
+        }
+        let folder = concat!(env!("CARGO_MANIFEST_DIR"), "/../../examples");
+        let text = std::fs::read_to_string(format!("{folder}/{name}.txt")).unwrap();
+        let answer = text.lines().find_map(|line| line.strip_prefix("answer: "));
+        for (checker, check, _) in CHECKERS {
+            let mut bytes = [0xa5; 32];
+            check(&file, &mut bytes);
+            let printed: String = bytes.iter().map(|byte| format!("{byte:02x}")).collect();
+            assert_eq!(Some(&printed[..]), answer, "{name}, {checker}");
+        }
+        checked += 1;
+    }
+    assert!(checked >= 20, "{checked} examples");
+}
+
+#[test]
+fn buffers() {
+    for (name, expected) in [
+        ("B", unnamed(0, 4)),
+        ("F", unnamed(9, 30)),
+        ("7 bytes", unnamed(2, 0)),
+    ] {
+        let file = example(name);
+        for (checker, check, _) in CHECKERS {
+            for room in 0..=64 {
+                let before: Vec<u8> = (0..80).map(|byte| 3 * byte + 1).collect();
+                let mut after = before.clone();
+                let verdict = check(&file, &mut after[..room]);
+                if room < 32 {
+                    // "Refusal 1 writes nothing."
+                    assert_eq!(verdict, unnamed(1, 0), "{name}, {checker}, {room}");
+                    assert_eq!(after, before, "{name}, {checker}, {room}");
+                } else {
+                    assert_eq!(verdict, expected, "{name}, {checker}, {room}");
+                    assert_eq!(after[..32], report(&expected), "{name}, {checker}, {room}");
+                    assert_eq!(after[32..], before[32..], "{name}, {checker}, {room}");
+                }
+            }
+        }
+    }
+}
+
+#[test]
+fn single_tests() {
+    // v in 0..2, start v = 0, v less than 2: v + 1, q v at most 2, node v at most 1. Only the step
+    // of v = 1 leaves the node.
+    let a = example("A");
+    for condition in 0..3 {
+        holds(&a, condition, &[true; 3]);
+    }
+    holds(&a, 3, &[true, false, true]);
+    // C has guard true and node v at most 2: at v = 2 the value is out of range, and the transition
+    // not enabled.
+    let c = example("C");
+    holds(&c, 2, &[true, true, false]);
+    holds(&c, 3, &[true; 3]);
+    // E's node 2, v = 0, may lead to v = 2 only.
+    let e = example("E");
+    for condition in (0..8).filter(|&condition| condition != 6) {
+        holds(&e, condition, &[true; 3]);
+    }
+    holds(&e, 6, &[false, true, true]);
+
+    for (file, conditions) in [(&a, 4), (&c, 4), (&e, 8)] {
+        for beyond in [conditions, conditions + 1, 1 << 32, usize::MAX] {
+            single_refused(file, beyond, 0, 11, 0);
+            single_refused(file, beyond, 3, 11, 0);
+        }
+        for beyond in [3, 4, 1 << 32, usize::MAX] {
+            single_refused(file, 0, beyond, 12, 0);
+            single_refused(file, conditions - 1, beyond, 12, 0);
+        }
+    }
+    for (name, number, place) in [
+        ("F", 9, 30),
+        ("G", 10, 2),
+        ("I", 9, 40),
+        ("no bytes", 3, 0),
+        ("7 bytes", 2, 0),
+    ] {
+        let file = example(name);
+        single_refused(&file, 0, 0, number, place);
+        single_refused(&file, usize::MAX, usize::MAX, number, place);
+    }
+}
+
+#[test]
+fn start_entry_cover() {
+    // Invariance: start v at most 1, node v = 0.
+    let at_most = compare(0x29, 1);
+    let property = (1, 0, &[always()][..]);
+    let inv = file((0, 2), at_most.clone(), &[], property, &[equal(0)], &[]);
+    broken(&inv, 13, 255, 255, 0, 1);
+    holds(&inv, 0, &[true, false, true]);
+    // The lowest condition, though a lower state breaks a higher one: node 1 is v = -3, q v = -2.
+    let nodes = [equal(-2), equal(-3)];
+    let inv = file((-3, 0), equal(0), &[], (1, 0, &[equal(-2)]), &nodes, &[]);
+    broken(&inv, 13, 255, 255, 0, 0);
+    holds(&inv, 2, &[false, true, true, true]);
+    let inv = file((-3, 0), equal(-3), &[], (1, 0, &[equal(-2)]), &nodes, &[]);
+    broken(&inv, 15, 1, 255, 2, -3);
+
+    // Wait-for: p v at most 1, q_0 v = 1, q_1 v = 0; nodes v = 1 and v = 0. The start is no matter.
+    let truths = [at_most.clone(), equal(1), equal(0)];
+    let nodes = [equal(1), equal(0)];
+    let wait_for = |truths: &[Records]| file((0, 2), always(), &[], (2, 2, truths), &nodes, &[]);
+    accepted(&wait_for(&truths), 3);
+    broken(
+        &wait_for(&[always(), equal(1), equal(0)]),
+        14,
+        255,
+        255,
+        0,
+        2,
+    );
+    // Each node has its own q.
+    let swapped = [at_most, equal(0), equal(1)];
+    broken(&wait_for(&swapped), 15, 0, 255, 1, 1);
+    holds(&wait_for(&swapped), 2, &[false, true, true]);
+    // With one phase q_0 holds where p does.
+    let one = |q| {
+        file(
+            (0, 2),
+            always(),
+            &[],
+            (2, 1, &[equal(1), q]),
+            &[equal(1)],
+            &[],
+        )
+    };
+    accepted(&one(equal(1)), 2);
+    broken(&one(equal(0)), 15, 0, 255, 1, 1);
+
+    // Chain: only node 0 must imply q.
+    let down = [step(1, &always(), 0)];
+    let chain = |p, q, node| {
+        let nodes = [node, equal(1)];
+        let edges = [(0, 1, 0, 1)];
+        file((0, 1), always(), &down, (3, 0, &[p, q]), &nodes, &edges)
+    };
+    broken(&chain(always(), always(), equal(1)), 14, 255, 255, 0, 0);
+    broken(&chain(equal(1), equal(0), equal(1)), 15, 0, 255, 1, 1);
+    // Node 1, v = 1, doesn't imply q; the step keeps v = 1, which node 0 has.
+    accepted(&chain(equal(1), always(), equal(1)), 5);
+}
+
+#[test]
+fn range_and_step() {
+    // Two transitions from v = 0 and v = 1 of 0..1; the first has its value out of range where v
+    // is 1, the second swaps 0 for 1.
+    let swap = [
+        vec![r(0x03, 0), r(0x20, 0), r(0x04, 0)],
+        vec![r(0x13, 0), constant(1), r(0x11, 0)],
+    ];
+    let transitions = [step(0, &always(), 1), swap.concat()];
+    let nodes = [equal(0), equal(1)];
+    let inv = |edges: &[_]| {
+        let property = (1, 0, &[always()][..]);
+        file((0, 1), equal(0), &transitions, property, &nodes, edges)
+    };
+    // 0 start, 1 and 2 cover, 3 to 10 range and step by node, by transition. Without an edge the
+    // node must be kept.
+    broken(&inv(&[]), 17, 0, 0, 4, 0);
+    broken(&inv(&[(0, 0, 1, 0)]), 17, 0, 1, 6, 0);
+    let edges = [(0, 0, 1, 0), (1, 0, 1, 0)];
+    broken(&inv(&edges), 16, 1, 0, 7, 1);
+    holds(&inv(&edges), 8, &[true, true]);
+    holds(&inv(&edges), 10, &[true, false]);
+    holds(&inv(&[edges[0], edges[1], (1, 1, 0, 0)]), 10, &[true, true]);
+    // An edge of another transition, or from another node, doesn't count.
+    holds(&inv(&[(1, 0, 1, 0), (0, 1, 1, 0)]), 4, &[false, true]);
+
+    // In a wait-for node 0 has no range and no step; p, q_0 and node 0 are v = 1.
+    let truths = [always(), equal(1), equal(0)];
+    let nodes = [equal(1), equal(0)];
+    let wait_for = |edges: &[_]| {
+        let property = (2, 2, &truths[..]);
+        file((0, 1), equal(0), &transitions, property, &nodes, edges)
+    };
+    broken(&wait_for(&[]), 17, 1, 0, 4, 0);
+    accepted(&wait_for(&[(0, 1, 0, 0), (1, 1, 0, 0)]), 7);
+}
+
+#[test]
+fn double_and_enabling() {
+    // D, whose node 2 is v = 0 and node 1 v = 1, with other guards and steps.
+    let nodes = [equal(2), equal(1), equal(0)];
+    let edges = [(0, 2, 1, 1), (0, 1, 0, 1)];
+    let chain = |transitions: &[Records], nodes: &[Records]| {
+        let property = (3, 0, &[always(), equal(2)][..]);
+        file((0, 2), equal(0), transitions, property, nodes, &edges)
+    };
+    accepted(&chain(&[step(1, &compare(0x28, 2), 1)], &nodes), 8);
+    // Enabling comes behind the step of the double transition: 2 range, 3 step, 4 enabling of node 1.
+    let only_first = chain(&[step(1, &equal(0), 1)], &nodes);
+    broken(&only_first, 18, 1, 0, 4, 1);
+    holds(&only_first, 7, &[true; 3]);
+    // The source node isn't enough after a double step.
+    let stays = chain(&[step(1, &always(), 0)], &nodes);
+    broken(&stays, 17, 1, 0, 3, 1);
+    // By a single transition it is: transition 1 adds 0.
+    let both = [step(1, &compare(0x28, 2), 1), step(1, &always(), 0)];
+    accepted(&chain(&both, &nodes), 12);
+    // Where a value is out of range, the transition is not enabled: range and enabling are broken.
+    let out = chain(&[step(1, &always(), -1)], &nodes);
+    holds(&out, 2, &[true; 3]);
+    holds(&out, 5, &[false, true, true]);
+    holds(&out, 6, &[true; 3]);
+    holds(&out, 7, &[false, true, true]);
+}
+
+/// "Totals: 1 + N + 2NT; 1 + N + 2(N-1)T; 2 + 2(N-1)T + (N-1)."
+#[test]
+fn totals() {
+    for (nodes, transitions) in [
+        (1, 0),
+        (1, 1),
+        (1, 32),
+        (2, 0),
+        (2, 1),
+        (3, 2),
+        (5, 7),
+        (32, 0),
+        (32, 1),
+        (32, 32),
+    ] {
+        // All truths are true and all steps idle.
+        let steps = vec![step(1, &always(), 0); transitions];
+        let assertions = vec![always(); nodes];
+        let truths = vec![always(); nodes + 1];
+        let (n, t) = (nodes as u32, transitions as u32);
+        let of = |property: (u8, i16, &[Records]), edges: &[_]| {
+            file((0, 0), always(), &steps, property, &assertions, edges)
+        };
+        accepted(&of((1, 0, &truths[..1]), &[]), 1 + n + 2 * n * t);
+        let phases = (2, nodes as i16, &truths[..]);
+        accepted(&of(phases, &[]), 1 + n + 2 * (n - 1) * t);
+        if nodes == 1 || transitions > 0 {
+            let edges: Vec<_> = (1..nodes)
+                .map(|node| ((node % transitions) as u8, node as i16, 0, 1))
+                .collect();
+            let chain = of((3, 0, &[always(), always()]), &edges);
+            accepted(&chain, 2 + 2 * (n - 1) * t + (n - 1));
+        }
+    }
+}

@@ -1,0 +1,59 @@
+//! Answers given by document 01 or worked out by hand, which both checkers must give.
+
+mod checking;
+mod evaluating;
+mod examples;
+mod readings;
+
+use differential::compare::{proved_check, proved_single};
+use independent::{Tested, Verdict};
+
+type Records = Vec<[u8; 8]>;
+type Check = fn(&[u8], &mut [u8]) -> Verdict;
+type Single = fn(&[u8], usize, usize) -> Tested;
+
+const CHECKERS: [(&str, Check, Single); 2] = [
+    ("proved", proved_check, proved_single),
+    ("independent", independent::check, independent::single),
+];
+
+/// A verdict that names no condition.
+fn unnamed(number: u8, at: u32) -> Verdict {
+    Verdict {
+        number,
+        node: 255,
+        transition: 255,
+        at,
+        values: [0; 12],
+    }
+}
+
+/// The report's bytes: number, node, transition, zero, four of the place, the values.
+fn report(verdict: &Verdict) -> Vec<u8> {
+    let mut bytes = vec![verdict.number, verdict.node, verdict.transition, 0];
+    bytes.extend(verdict.at.to_le_bytes());
+    for value in verdict.values {
+        bytes.extend(value.to_le_bytes());
+    }
+    bytes
+}
+
+/// Both give this verdict, and write its report to the start of the buffer and nothing behind it.
+#[track_caller]
+fn answers(file: &[u8], expected: Verdict) {
+    for (name, check, _) in CHECKERS {
+        let mut buffer = [0xa5; 40];
+        assert_eq!(check(file, &mut buffer), expected, "{name}");
+        assert_eq!(buffer[..32], report(&expected), "{name}");
+        assert_eq!(buffer[32..], [0xa5; 8], "{name}");
+    }
+}
+
+/// Both answer the single test so.
+#[track_caller]
+fn tests(file: &[u8], condition: usize, state: usize, expected: Tested) {
+    for (name, _, single) in CHECKERS {
+        let found = single(file, condition, state);
+        assert_eq!(found, expected, "{name}, {condition}, {state}");
+    }
+}

@@ -1,0 +1,437 @@
+//! Answers worked out by hand, where document 01 leaves a choice or refusals meet.
+
+use super::{answers, tests, unnamed, Records, CHECKERS};
+use differential::generate::record;
+use independent::Tested;
+
+/// A readable chain; its records by number:
+/// 0 variable, 1 start, 2 true, 3 transition, 4 true, 5 assignment, 6 variable, 7 transition,
+/// 8 true, 9 property, 10 p, 11 q, 12 node, 13 true, 14 node, 15 true, 16 node, 17 true,
+/// 18 edge 1 to 0 double, 19 edge 2 to 0 double.
+fn chain() -> Records {
+    vec![
+        record(0x01, 0, 0, 2, 0),
+        r(0x02),
+        r(0x20),
+        record(0x03, 1, 0, 0, 0),
+        r(0x20),
+        r(0x04),
+        r(0x11),
+        record(0x03, 1, 0, 0, 0),
+        r(0x20),
+        record(0x05, 3, 0, 0, 0),
+        r(0x20),
+        r(0x20),
+        r(0x06),
+        r(0x20),
+        r(0x06),
+        r(0x20),
+        r(0x06),
+        r(0x20),
+        edge(0, 1, 0, 1),
+        edge(0, 2, 0, 1),
+    ]
+}
+
+/// A readable wait-for with two phases, no transitions: 0 variable, 1 start, 2 true, 3 property,
+/// 4 p, 5 q_0, 6 q_1, 7 node, 8 true, 9 node, 10 true.
+fn wait_for() -> Records {
+    let mut records = vec![record(0x01, 0, -1, 1, 0), r(0x02), r(0x20)];
+    records.push(record(0x05, 2, 2, 0, 0));
+    records.extend([r(0x20); 3]);
+    records.extend([r(0x06), r(0x20), r(0x06), r(0x20)]);
+    records
+}
+
+fn r(kind: u8) -> [u8; 8] {
+    record(kind, 0, 0, 0, 0)
+}
+
+fn edge(transition: u8, from: i16, to: i16, d: u8) -> [u8; 8] {
+    record(0x07, transition, from, to, d)
+}
+
+fn constant(value: i16) -> [u8; 8] {
+    record(0x10, 0, value, 0, 0)
+}
+
+/// A file with records in place of some of its own.
+fn with(mut records: Records, range: std::ops::Range<usize>, new: &[[u8; 8]]) -> Records {
+    records.splice(range, new.iter().copied());
+    records
+}
+
+/// The chain with other edges than its own.
+fn with_edges(edges: &[[u8; 8]]) -> Records {
+    with(chain(), 18..20, edges)
+}
+
+/// Both find the file readable: the next refusal is that there are not so many conditions.
+#[track_caller]
+fn readable(records: &Records) {
+    let (number, place) = (11, 0);
+    let expected = Tested::Refused { number, place };
+    tests(&records.concat(), usize::MAX, usize::MAX, expected);
+}
+
+/// Both refuse the file, with this number and place, in the check and in a single test.
+#[track_caller]
+fn refused(number: u8, place: usize, records: &Records) {
+    let file = records.concat();
+    let place = place as u32;
+    answers(&file, unnamed(number, place));
+    tests(&file, 0, 0, Tested::Refused { number, place });
+}
+
+#[test]
+fn kinds() {
+    // Files that end early. After any of its nodes a chain may end.
+    for end in (0..14).chain([15, 17]) {
+        refused(3, end, &with(chain(), end..20, &[]));
+    }
+    readable(&with(chain(), 14..20, &[]));
+    refused(10, 1, &with(chain(), 16..20, &[]));
+    for end in 0..11 {
+        refused(3, end, &with(wait_for(), end..11, &[]));
+    }
+    // No variable.
+    refused(3, 0, &with(chain(), 0..1, &[]));
+    // A variable after the start.
+    refused(3, 3, &with(chain(), 3..3, &[chain()[0]]));
+    // Two starts.
+    refused(3, 3, &with(chain(), 3..3, &[r(0x02), r(0x20)]));
+    // A number for a guard.
+    refused(3, 4, &with(chain(), 4..5, &[constant(1)]));
+    // A truth for a number.
+    refused(3, 6, &with(chain(), 6..7, &[r(0x20)]));
+    // An assignment without a transition.
+    refused(3, 3, &with(chain(), 3..5, &[]));
+    // No node.
+    refused(3, 12, &with(chain(), 12..18, &[]));
+    // An edge where a node must stand.
+    refused(3, 9, &with(wait_for(), 9..11, &[edge(0, 1, 0, 0)]));
+    // A node after an edge.
+    refused(3, 20, &with(chain(), 20..20, &[r(0x06)]));
+    // Kind 00.
+    refused(3, 20, &with(chain(), 20..20, &[[0; 8]]));
+    // Kinds before fields.
+    refused(3, 2, &with(chain(), 2..3, &[[0xff; 8]]));
+}
+
+#[test]
+fn fields() {
+    // Byte 7, and each byte of a record with no fields named.
+    for place in 0..20 {
+        let mut records = chain();
+        records[place][7] = 1;
+        refused(4, place, &records);
+    }
+    for byte in 1..8 {
+        let mut records = chain();
+        records[2][byte] = 0x80;
+        refused(4, 2, &records);
+    }
+    let property = |a, b| with(chain(), 9..10, &[record(0x05, a, b, 0, 0)]);
+    for (a, b) in [
+        (0, 0),
+        (4, 0),
+        (1, 1),
+        (3, 2),
+        (2, 0),
+        (2, -1),
+        (2, 33),
+        (2, 257),
+    ] {
+        refused(4, 9, &property(a, b));
+    }
+    let range = |b, c| with(chain(), 0..1, &[record(0x01, 0, b, c, 0)]);
+    // Ranges of none, of one, and with a sign.
+    refused(4, 0, &range(1, 0));
+    readable(&range(-3, -3));
+    readable(&range(-1, 0));
+    // Neither just nor not.
+    refused(4, 3, &with(chain(), 3..4, &[record(0x03, 2, 0, 0, 0)]));
+    // There is no variable 1.
+    refused(4, 6, &with(chain(), 6..7, &[record(0x11, 1, 0, 0, 0)]));
+    refused(4, 5, &with(chain(), 5..6, &[record(0x04, 1, 0, 0, 0)]));
+    for bad in [
+        edge(2, 1, 0, 1),
+        edge(0, 3, 0, 1),
+        edge(0, 1, 3, 1),
+        edge(0, -1, 0, 1),
+    ] {
+        refused(4, 19, &with_edges(&[edge(0, 1, 0, 1), bad]));
+    }
+    // Neither single nor double.
+    refused(4, 18, &with_edges(&[edge(0, 1, 0, 2)]));
+    // An edge without transitions.
+    let no_transition = with(wait_for(), 11..11, &[edge(0, 1, 0, 0)]);
+    refused(4, 11, &no_transition);
+}
+
+#[test]
+fn limits() {
+    let one = record(0x01, 0, 5, 5, 0);
+    let variables = |count: usize| with(chain(), 0..1, &vec![one; count]);
+    readable(&variables(12));
+    refused(5, 12, &variables(13));
+    // Fields before limits.
+    let bad = with(variables(13), 12..13, &[record(0x01, 0, 1, 0, 0)]);
+    refused(4, 12, &bad);
+
+    let transitions = |count: usize| {
+        let more = [record(0x03, 0, 0, 0, 0), r(0x20)].repeat(count - 2);
+        with(chain(), 9..9, &more)
+    };
+    readable(&transitions(32));
+    refused(5, 9 + 60, &transitions(33));
+
+    // Invariance, so that the nodes need no double edges.
+    let nodes = |count: usize| {
+        let parts = [record(0x05, 1, 0, 0, 0), r(0x20)];
+        let nodes = [r(0x06), r(0x20)].repeat(count);
+        with(chain(), 9..20, &[&parts[..], &nodes].concat())
+    };
+    readable(&nodes(32));
+    refused(5, 11 + 64, &nodes(33));
+    // As many nodes as phases.
+    refused(5, 11, &with(wait_for(), 11..11, &[r(0x06), r(0x20)]));
+    let phases = |count: usize| {
+        let mut records = with(wait_for(), 3..11, &[record(0x05, 2, count as i16, 0, 0)]);
+        records.extend(vec![r(0x20); count + 1]);
+        records.extend([r(0x06), r(0x20)].repeat(count));
+        records
+    };
+    readable(&phases(1));
+    readable(&phases(32));
+    let more = with(phases(32), 101..101, &[r(0x06), r(0x20)]);
+    refused(5, 3 + 1 + 33 + 64, &more);
+
+    let edges = |count: i16| {
+        let edges: Records = (0..count)
+            .map(|edge| record(0x07, (edge % 2) as u8, edge / 64, edge / 2 % 32, 0))
+            .collect();
+        [nodes(32), edges].concat()
+    };
+    readable(&edges(512));
+    refused(5, 75 + 512, &edges(513));
+    // Limits before repeats.
+    let repeated = [edges(512), vec![edge(0, 0, 0, 0)]].concat();
+    refused(5, 75 + 512, &repeated);
+    // Fields before both.
+    let bad = [edges(512), vec![edge(0, 0, 0, 2)]].concat();
+    refused(4, 75 + 512, &bad);
+}
+
+#[test]
+fn levels() {
+    // The start is record 1, so level n of these is at record 1 + n.
+    let nots = |count: usize, last: &[[u8; 8]]| {
+        let start = [&vec![r(0x22); count][..], last].concat();
+        with(chain(), 2..3, &start)
+    };
+    // 16 levels.
+    readable(&nots(15, &[r(0x20)]));
+    // 17 levels.
+    refused(5, 18, &nots(16, &[r(0x20)]));
+    // Sorts and fields before levels.
+    refused(3, 18, &nots(16, &[constant(0)]));
+    refused(4, 18, &nots(16, &[record(0x20, 1, 0, 0, 0)]));
+    // Level 17 missing.
+    let mut end = nots(16, &[]);
+    end.truncate(18);
+    refused(3, 18, &end);
+    let wide = [r(0x23), r(0x20), r(0x20)];
+    // 16 levels, two operands.
+    readable(&nots(14, &wide));
+    // 17 levels, two operands.
+    refused(5, 18, &nots(15, &wide));
+    // Very many levels.
+    refused(5, 18, &nots(4000, &[r(0x20)]));
+    // 17 levels of both sorts.
+    let mixed: Records = [r(0x29), r(0x15)].repeat(8);
+    let mut open = vec![constant(0); 8];
+    open.insert(0, r(0x20));
+    refused(5, 18, &nots(0, &[mixed, open].concat()));
+}
+
+#[test]
+fn repeats() {
+    // Assigned again.
+    let again = with(chain(), 7..7, &[r(0x04), r(0x11)]);
+    refused(6, 7, &again);
+    // Assigned by two transitions.
+    let two = with(chain(), 9..9, &[r(0x04), r(0x11)]);
+    readable(&two);
+    // The same edge, whatever d is.
+    refused(6, 19, &with_edges(&[edge(0, 1, 0, 1), edge(0, 1, 0, 1)]));
+    refused(6, 19, &with_edges(&[edge(0, 1, 0, 1), edge(0, 1, 0, 0)]));
+    // Fields before repeats.
+    refused(4, 19, &with_edges(&[edge(0, 1, 0, 1), edge(0, 1, 0, 3)]));
+    // The first record counts.
+    let later = with(again, 22..22, &[edge(9, 0, 0, 0)]);
+    refused(6, 7, &later);
+}
+
+#[test]
+fn intervals() {
+    let ranges = |ranges: &[(i16, i16)]| {
+        let ranges: Records = ranges
+            .iter()
+            .map(|&(b, c)| record(0x01, 0, b, c, 0))
+            .collect();
+        with(chain(), 0..1, &ranges)
+    };
+    let widest = (i16::MIN, i16::MAX);
+    // The widest range.
+    readable(&ranges(&[widest]));
+    // 1,048,576 states.
+    readable(&ranges(&[widest, (1, 16)]));
+    readable(&ranges(&[(0, 16), (0, 30_000), (0, 0)]));
+    // 1,048,577 states.
+    refused(7, 1, &ranges(&[(0, 16), (-30_000, 31_680), (0, 0)]));
+    refused(7, 3, &ranges(&[(0, 1), widest, (0, 7), (0, 1)]));
+
+    // The start compares this with 0, so that the number's first record is record 3.
+    let start = |number: &[[u8; 8]]| {
+        let start = [&[r(0x27)], number, &[constant(0)]].concat();
+        with(chain(), 2..3, &start)
+    };
+    let million = [r(0x14), constant(-1000), constant(1000)];
+    let sum = |value| [&[r(0x12)], &million[..], &[constant(value)]].concat();
+    // -1,000,000.
+    readable(&start(&sum(0)));
+    // -1,000,001.
+    refused(8, 3, &start(&sum(-1)));
+    // Variable 0, in 0..2, less -1,000,000.
+    let two = [&[r(0x13), r(0x11)], &million[..]].concat();
+    refused(8, 3, &start(&two));
+    // Left before right.
+    let both = [
+        &[r(0x13), r(0x12)],
+        &million[..],
+        &[constant(-1), r(0x14), constant(1001), constant(1000)],
+    ];
+    refused(8, 4, &start(&both.concat()));
+    // Under an indicator.
+    let under = [
+        &[r(0x15), r(0x27), r(0x14)],
+        &[constant(1001); 2][..],
+        &[r(0x11)],
+    ];
+    refused(8, 5, &start(&under.concat()));
+    // -2..1 times -3..2 is -4..6; six times 166,000 and 167,000.
+    let mut signs = ranges(&[(-2, 1), (-3, 2)]);
+    let factor = |value| [r(0x14), constant(value), constant(2), r(0x14), r(0x11)];
+    let number = |value| {
+        let other = record(0x11, 1, 0, 0, 0);
+        [
+            &[r(0x27), r(0x14), r(0x14)],
+            &factor(value)[..],
+            &[other, constant(500), constant(0)],
+        ]
+        .concat()
+    };
+    signs = with(signs, 3..4, &number(166));
+    readable(&signs);
+    signs = with(signs, 3..14, &number(167));
+    refused(8, 4, &signs);
+}
+
+#[test]
+fn edge_rules() {
+    let own = [edge(0, 1, 0, 1), edge(0, 2, 0, 1)];
+    let more = |edge| with_edges(&[own[0], own[1], edge]);
+    // Two double edges.
+    readable(&more(edge(0, 2, 1, 1)));
+    // Single to its own node.
+    readable(&more(edge(1, 1, 1, 0)));
+    // Single down.
+    readable(&more(edge(1, 2, 1, 0)));
+    // Single up.
+    refused(9, 20, &more(edge(1, 1, 2, 0)));
+    // Single from the goal.
+    refused(9, 20, &more(edge(1, 0, 0, 0)));
+    // Double to its own node.
+    refused(9, 20, &more(edge(0, 2, 2, 1)));
+    // Double up.
+    refused(9, 20, &more(edge(0, 1, 2, 1)));
+    // Another double transition.
+    refused(9, 20, &more(edge(1, 2, 1, 1)));
+    // Also single.
+    refused(9, 20, &more(edge(0, 2, 1, 0)));
+    // First single.
+    refused(9, 20, &with_edges(&[edge(0, 2, 1, 0), own[0], own[1]]));
+    // Each node its own double transition.
+    let other = with_edges(&[own[0], edge(1, 2, 0, 1)]);
+    readable(&other);
+    let not_just = |place| with(other.clone(), place..place + 1, &[r(0x03)]);
+    // Transition 0 not just.
+    refused(9, 18, &not_just(3));
+    // Transition 1 not just.
+    refused(9, 19, &not_just(7));
+
+    // No double edge.
+    refused(10, 2, &with_edges(&own[..1]));
+    // No double edges.
+    refused(10, 1, &with_edges(&[]));
+    // Single only.
+    refused(10, 1, &with_edges(&[edge(0, 1, 0, 0), own[1]]));
+    // 9 before 10.
+    refused(9, 19, &with_edges(&[own[0], edge(0, 2, 2, 1)]));
+
+    let property = |a| with(chain(), 9..11, &[record(0x05, a, 0, 0, 0)]);
+    // Double in an invariance.
+    refused(9, 17, &property(1));
+    // Any single in an invariance.
+    let single = [edge(0, 0, 2, 0), edge(1, 1, 1, 0)];
+    readable(&with(property(1), 17..19, &single));
+    let phased = |edges: &[[u8; 8]]| {
+        let mut records = with_edges(edges);
+        records.splice(9..10, [record(0x05, 2, 3, 0, 0), r(0x20), r(0x20)]);
+        records
+    };
+    readable(&phased(&[edge(0, 1, 1, 0), edge(0, 2, 0, 0)]));
+    // Double in a wait-for.
+    refused(9, 20, &phased(&[edge(0, 1, 0, 1)]));
+    // Up in a wait-for.
+    refused(9, 21, &phased(&[edge(0, 1, 0, 0), edge(0, 1, 2, 0)]));
+    // From the goal in a wait-for.
+    refused(9, 20, &phased(&[edge(0, 0, 0, 0)]));
+}
+
+#[test]
+fn order() {
+    let states = [record(0x01, 0, 0, 2000, 0); 2];
+    let product = [r(0x27), r(0x14), r(0x11), r(0x11), constant(0)];
+    let mut records = with_edges(&[edge(0, 2, 2, 1)]);
+    // 9 before 10.
+    refused(9, 18, &records);
+    records = with(records, 2..3, &product);
+    // An interval of 0..4 changes nothing.
+    refused(9, 22, &records);
+    records = with(records, 0..1, &states[..1]);
+    // 8 before 9.
+    refused(8, 3, &records);
+    records = with(records, 0..1, &states);
+    // 7 before 8.
+    refused(7, 1, &records);
+    records.push(edge(0, 2, 2, 0));
+    // 6 before 7.
+    refused(6, 24, &records);
+}
+
+#[test]
+fn length() {
+    for (name, file, number) in [
+        ("4,096 records of kind 00", vec![0; 32_768], 3),
+        ("one more", vec![0; 32_776], 2),
+        ("one byte more", vec![0; 32_769], 2),
+        ("one byte less", chain().concat()[1..].to_vec(), 2),
+    ] {
+        for (checker, check, _) in CHECKERS {
+            let verdict = check(&file, &mut [0; 32]);
+            assert_eq!(verdict, unnamed(number, 0), "{name}, {checker}");
+        }
+    }
+}

@@ -1,0 +1,57 @@
+//! Evaluating expressions and transitions at a state (document 01, "States, steps, runs").
+//!
+//! The intervals keep every number within -1,000,000..1,000,000.
+
+use crate::file::{Number, Transition, Truth, Variable};
+use crate::states::State;
+
+pub fn number(expression: &Number, state: &State) -> i32 {
+    match expression {
+        Number::Constant(value) => *value,
+        Number::Variable(variable) => i32::from(state[*variable]),
+        Number::Sum(pair) => number(&pair.left, state) + number(&pair.right, state),
+        Number::Difference(pair) => number(&pair.left, state) - number(&pair.right, state),
+        Number::Product(pair) => number(&pair.left, state) * number(&pair.right, state),
+        Number::Indicator(operand) => i32::from(truth(operand, state)),
+    }
+}
+
+pub fn truth(expression: &Truth, state: &State) -> bool {
+    match expression {
+        Truth::True => true,
+        Truth::False => false,
+        Truth::Not(operand) => !truth(operand, state),
+        Truth::And(pair) => truth(&pair.0, state) && truth(&pair.1, state),
+        Truth::Or(pair) => truth(&pair.0, state) || truth(&pair.1, state),
+        Truth::Implies(pair) => !truth(&pair.0, state) || truth(&pair.1, state),
+        Truth::Iff(pair) => truth(&pair.0, state) == truth(&pair.1, state),
+        Truth::Equal(pair) => number(&pair.0, state) == number(&pair.1, state),
+        Truth::Less(pair) => number(&pair.0, state) < number(&pair.1, state),
+        Truth::AtMost(pair) => number(&pair.0, state) <= number(&pair.1, state),
+    }
+}
+
+/// The state with the assigned values, "worked out from s together", if all lie in range;
+/// the guard is not asked.
+pub fn assigned(transition: &Transition, ranges: &[Variable], state: &State) -> Option<State> {
+    let mut next = *state;
+    for assignment in &transition.assignments {
+        let value = number(&assignment.value, state);
+        next[assignment.variable] = in_range(value, ranges[assignment.variable])?;
+    }
+    Some(next)
+}
+
+/// The successor, if the transition is enabled: guard true and all assigned values in range.
+pub fn successor(transition: &Transition, ranges: &[Variable], state: &State) -> Option<State> {
+    if truth(&transition.guard, state) {
+        assigned(transition, ranges, state)
+    } else {
+        None
+    }
+}
+
+fn in_range(value: i32, range: Variable) -> Option<i16> {
+    let value = i16::try_from(value).ok()?;
+    (range.low..=range.high).contains(&value).then_some(value)
+}

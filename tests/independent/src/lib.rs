@@ -1,0 +1,97 @@
+//! The verification diagram checker of document 01, written from document 01 alone.
+//!
+//! Layers, from below: the records and their reading ([`read`]), the evaluating of
+//! expressions and transitions, the conditions and their judging ([`check`], [`single`]).
+
+mod conditions;
+mod edges;
+mod evaluate;
+mod file;
+mod intervals;
+mod limits;
+mod parse;
+mod records;
+mod refusal;
+mod report;
+mod states;
+
+pub use conditions::Condition;
+pub use file::{Assignment, Claim, Edge, File, Number, Pair, Transition, Truth, Variable};
+pub use refusal::Refusal;
+pub use report::{Verdict, REPORT_LENGTH};
+pub use states::State;
+
+use conditions::Obligation;
+
+/// A single test's answer.
+#[derive(Clone, Copy, Debug, PartialEq, Eq)]
+pub enum Tested {
+    Holds,
+    Fails,
+    Refused { number: u8, place: u32 },
+}
+
+/// Reads a file: refusals 2 to 10, in the order of "Numbers of refusal".
+pub fn read(file: &[u8]) -> Result<File, Refusal> {
+    records::check_length(file)?;
+    let file = parse::parse(file)?;
+    limits::check_states(&file)?;
+    intervals::check_expressions(&file)?;
+    edges::check_rules(&file)?;
+    edges::check_doubles(&file)?;
+    Ok(file)
+}
+
+/// The check: the verdict, and the report in the buffer's first 32 bytes
+/// (nothing written if it is shorter).
+pub fn check(file: &[u8], report: &mut [u8]) -> Verdict {
+    if report.len() < REPORT_LENGTH {
+        return Verdict::refused(Refusal::new(refusal::BUFFER, 0));
+    }
+    let verdict = verdict(file);
+    report[..REPORT_LENGTH].copy_from_slice(&verdict.bytes());
+    verdict
+}
+
+/// The check's result where the buffer is long enough.
+fn verdict(file: &[u8]) -> Verdict {
+    match read(file) {
+        Ok(file) => judge(&file),
+        Err(refusal) => Verdict::refused(refusal),
+    }
+}
+
+/// "If conditions are broken, the lowest is given", here with its lowest breaking state.
+fn judge(file: &File) -> Verdict {
+    let conditions = file.conditions();
+    for (number, condition) in conditions.iter().enumerate() {
+        let obligation = Obligation::of(file, *condition);
+        let mut states = states::all(&file.variables);
+        if let Some(state) = states.find(|state| !obligation.holds(&file.variables, state)) {
+            return Verdict::broken(*condition, number, state);
+        }
+    }
+    Verdict::accepted(conditions.len())
+}
+
+/// The single test of one condition at one state: refusals 2 to 12, else holds or fails.
+pub fn single(file: &[u8], condition: usize, state: usize) -> Tested {
+    match test(file, condition, state) {
+        Ok(true) => Tested::Holds,
+        Ok(false) => Tested::Fails,
+        Err(Refusal { number, place }) => Tested::Refused { number, place },
+    }
+}
+
+fn test(file: &[u8], condition: usize, state: usize) -> Result<bool, Refusal> {
+    let file = read(file)?;
+    let conditions = file.conditions();
+    let condition = conditions
+        .get(condition)
+        .ok_or(Refusal::new(refusal::CONDITION_NUMBER, 0))?;
+    if state >= file.states() {
+        return Err(Refusal::new(refusal::STATE_NUMBER, 0));
+    }
+    let state = states::numbered(&file.variables, state);
+    Ok(Obligation::of(&file, *condition).holds(&file.variables, &state))
+}

@@ -1,0 +1,319 @@
+//! Reading the records into a [`File`]; refusals 3 to 6, tried in that order at each record.
+
+use crate::file::{Assignment, Claim, Edge, File, Number, Pair, Transition, Truth, Variable};
+use crate::records::*;
+use crate::refusal::{Refusal, FIELD, KIND, LIMIT, REPEAT};
+
+const MOST_VARIABLES: usize = 12;
+const MOST_TRANSITIONS: usize = 32;
+const MOST_NODES: usize = 32;
+const MOST_PHASES: i16 = 32;
+const MOST_EDGES: usize = 512;
+const MOST_LEVELS: usize = 16;
+
+pub fn parse(file: &[u8]) -> Result<File, Refusal> {
+    let mut parser = Parser::new(file);
+    let variables = parser.variables()?;
+    let start = parser.start()?;
+    let transitions = parser.transitions()?;
+    let claim = parser.property()?;
+    let nodes = parser.nodes(&claim)?;
+    let edges = parser.edges(transitions.len(), nodes.len())?;
+    parser.end()?;
+    Ok(File {
+        variables,
+        start,
+        transitions,
+        claim,
+        nodes,
+        edges,
+    })
+}
+
+struct Parser<'a> {
+    file: &'a [u8],
+    /// The number of the record to be read next.
+    at: usize,
+    /// How many variables the file has, known once they are read.
+    variables: usize,
+}
+
+impl<'a> Parser<'a> {
+    fn new(file: &'a [u8]) -> Parser<'a> {
+        Parser {
+            file,
+            at: 0,
+            variables: 0,
+        }
+    }
+
+    // The refusals, each placed at the record to be read next.
+
+    fn demand(&self, met: bool, number: u8) -> Result<(), Refusal> {
+        if met {
+            Ok(())
+        } else {
+            Err(Refusal::new(number, self.at))
+        }
+    }
+
+    /// 3: a record's kind doesn't fit its place, or the file ends early.
+    fn fits(&self, met: bool) -> Result<(), Refusal> {
+        self.demand(met, KIND)
+    }
+
+    /// 4: a field has a value not allowed, or names what the file lacks.
+    fn fields(&self, met: bool) -> Result<(), Refusal> {
+        self.demand(met, FIELD)
+    }
+
+    /// 5: one past a limit.
+    fn within(&self, met: bool) -> Result<(), Refusal> {
+        self.demand(met, LIMIT)
+    }
+
+    /// 6: assigned again, or an edge repeated.
+    fn fresh(&self, met: bool) -> Result<(), Refusal> {
+        self.demand(met, REPEAT)
+    }
+
+    // The records.
+
+    /// The record to be read next; at the file's end 3, with the record count as place.
+    fn record(&self) -> Result<Record, Refusal> {
+        let record = Record::at(self.file, self.at);
+        record.ok_or(Refusal::new(KIND, self.at))
+    }
+
+    /// The record to be read next, if it is there and of that kind.
+    fn optional(&self, kind: u8) -> Option<Record> {
+        let record = Record::at(self.file, self.at)?;
+        (record.kind == kind).then_some(record)
+    }
+
+    /// The record to be read next, which must be of that kind.
+    fn required(&self, kind: u8) -> Result<Record, Refusal> {
+        let record = self.record()?;
+        self.fits(record.kind == kind)?;
+        Ok(record)
+    }
+
+    fn advance(&mut self) {
+        self.at += 1;
+    }
+
+    fn end(&self) -> Result<(), Refusal> {
+        self.fits(Record::at(self.file, self.at).is_none())
+    }
+
+    // The file's parts, in file order.
+
+    fn variables(&mut self) -> Result<Vec<Variable>, Refusal> {
+        let mut variables = Vec::new();
+        self.required(VARIABLE)?;
+        while let Some(record) = self.optional(VARIABLE) {
+            self.fields(record.zero_except(&[Field::B, Field::C]) && record.b <= record.c)?;
+            self.within(variables.len() < MOST_VARIABLES)?;
+            self.advance();
+            variables.push(Variable {
+                low: record.b,
+                high: record.c,
+            });
+        }
+        self.variables = variables.len();
+        Ok(variables)
+    }
+
+    fn start(&mut self) -> Result<Truth, Refusal> {
+        let record = self.required(START)?;
+        self.fields(record.zero_except(&[]))?;
+        self.advance();
+        self.truth(1)
+    }
+
+    fn transitions(&mut self) -> Result<Vec<Transition>, Refusal> {
+        let mut transitions = Vec::new();
+        while let Some(record) = self.optional(TRANSITION) {
+            self.fields(record.zero_except(&[Field::A]) && record.a <= 1)?;
+            self.within(transitions.len() < MOST_TRANSITIONS)?;
+            self.advance();
+            transitions.push(Transition {
+                just: record.a == 1,
+                guard: self.truth(1)?,
+                assignments: self.assignments()?,
+            });
+        }
+        Ok(transitions)
+    }
+
+    fn assignments(&mut self) -> Result<Vec<Assignment>, Refusal> {
+        let mut assignments: Vec<Assignment> = Vec::new();
+        while let Some(record) = self.optional(ASSIGNMENT) {
+            let variable = usize::from(record.a);
+            let known = variable < self.variables;
+            self.fields(record.zero_except(&[Field::A]) && known)?;
+            let again = assignments.iter().any(|one| one.variable == variable);
+            self.fresh(!again)?;
+            self.advance();
+            let value = self.number(1)?;
+            assignments.push(Assignment { variable, value });
+        }
+        Ok(assignments)
+    }
+
+    fn property(&mut self) -> Result<Claim, Refusal> {
+        let record = self.required(PROPERTY)?;
+        // b is named for a = 2 only; otherwise it is zero.
+        let allowed = match record.a {
+            1 | 3 => record.zero_except(&[Field::A]),
+            2 => record.zero_except(&[Field::A, Field::B]) && phases_allowed(record.b),
+            _ => false,
+        };
+        self.fields(allowed)?;
+        self.advance();
+        match record.a {
+            1 => self.invariance(),
+            2 => self.wait_for(record.b),
+            _ => self.chain(),
+        }
+    }
+
+    fn invariance(&mut self) -> Result<Claim, Refusal> {
+        let q = self.truth(1)?;
+        Ok(Claim::Invariance { q })
+    }
+
+    fn wait_for(&mut self, phases: i16) -> Result<Claim, Refusal> {
+        let p = self.truth(1)?;
+        let q: Result<Vec<Truth>, Refusal> = (0..phases).map(|_| self.truth(1)).collect();
+        Ok(Claim::WaitFor { p, q: q? })
+    }
+
+    fn chain(&mut self) -> Result<Claim, Refusal> {
+        let p = self.truth(1)?;
+        let q = self.truth(1)?;
+        Ok(Claim::Chain { p, q })
+    }
+
+    /// "1 to 32; for wait-for exactly b"; one too many is 5, too few is 3.
+    fn nodes(&mut self, claim: &Claim) -> Result<Vec<Truth>, Refusal> {
+        let (least, most) = match claim {
+            Claim::WaitFor { q, .. } => (q.len(), q.len()),
+            Claim::Invariance { .. } | Claim::Chain { .. } => (1, MOST_NODES),
+        };
+        let mut nodes = Vec::new();
+        while let Some(record) = self.optional(NODE) {
+            self.fields(record.zero_except(&[]))?;
+            self.within(nodes.len() < most)?;
+            self.advance();
+            nodes.push(self.truth(1)?);
+        }
+        self.fits(nodes.len() >= least)?;
+        Ok(nodes)
+    }
+
+    fn edges(&mut self, transitions: usize, nodes: usize) -> Result<Vec<Edge>, Refusal> {
+        let mut edges: Vec<Edge> = Vec::new();
+        while let Some(record) = self.optional(EDGE) {
+            let edge = self.edge(record, transitions, nodes)?;
+            self.within(edges.len() < MOST_EDGES)?;
+            self.fresh(!edges.iter().any(|before| repeats(&edge, before)))?;
+            self.advance();
+            edges.push(edge);
+        }
+        Ok(edges)
+    }
+
+    /// The edge, its fields allowed.
+    fn edge(&self, record: Record, transitions: usize, nodes: usize) -> Result<Edge, Refusal> {
+        self.fields(record.last == 0 && record.d <= 1)?;
+        let transition = usize::from(record.a);
+        self.fields(transition < transitions)?;
+        let (from, to) = match (usize::try_from(record.b), usize::try_from(record.c)) {
+            (Ok(from), Ok(to)) => (from, to),
+            _ => return Err(Refusal::new(FIELD, self.at)),
+        };
+        self.fields(from < nodes)?;
+        self.fields(to < nodes)?;
+        Ok(Edge {
+            place: self.at,
+            transition,
+            from,
+            to,
+            double: record.d == 1,
+        })
+    }
+
+    // Expressions; the level counts the outermost record as 1.
+
+    fn truth(&mut self, level: usize) -> Result<Truth, Refusal> {
+        let record = self.record()?;
+        self.fits((TRUE..=AT_MOST).contains(&record.kind))?;
+        self.fields(record.zero_except(&[]))?;
+        self.within(level <= MOST_LEVELS)?;
+        self.advance();
+        Ok(match record.kind {
+            TRUE => Truth::True,
+            FALSE => Truth::False,
+            NOT => Truth::Not(Box::new(self.truth(level + 1)?)),
+            AND => Truth::And(self.truths(level + 1)?),
+            OR => Truth::Or(self.truths(level + 1)?),
+            IMPLIES => Truth::Implies(self.truths(level + 1)?),
+            IFF => Truth::Iff(self.truths(level + 1)?),
+            EQUAL => Truth::Equal(self.numbers(level + 1)?),
+            LESS => Truth::Less(self.numbers(level + 1)?),
+            _ => Truth::AtMost(self.numbers(level + 1)?),
+        })
+    }
+
+    fn truths(&mut self, level: usize) -> Result<Box<(Truth, Truth)>, Refusal> {
+        let left = self.truth(level)?;
+        let right = self.truth(level)?;
+        Ok(Box::new((left, right)))
+    }
+
+    fn numbers(&mut self, level: usize) -> Result<Box<(Number, Number)>, Refusal> {
+        let left = self.number(level)?;
+        let right = self.number(level)?;
+        Ok(Box::new((left, right)))
+    }
+
+    fn number(&mut self, level: usize) -> Result<Number, Refusal> {
+        let place = self.at;
+        let record = self.record()?;
+        self.fits((CONSTANT..=INDICATOR).contains(&record.kind))?;
+        let variable = usize::from(record.a);
+        self.fields(match record.kind {
+            CONSTANT => record.zero_except(&[Field::B]),
+            VALUE => record.zero_except(&[Field::A]) && variable < self.variables,
+            _ => record.zero_except(&[]),
+        })?;
+        self.within(level <= MOST_LEVELS)?;
+        self.advance();
+        Ok(match record.kind {
+            CONSTANT => Number::Constant(i32::from(record.b)),
+            VALUE => Number::Variable(variable),
+            SUM => Number::Sum(self.pair(place, level + 1)?),
+            DIFFERENCE => Number::Difference(self.pair(place, level + 1)?),
+            PRODUCT => Number::Product(self.pair(place, level + 1)?),
+            _ => Number::Indicator(Box::new(self.truth(level + 1)?)),
+        })
+    }
+
+    fn pair(&mut self, place: usize, level: usize) -> Result<Box<Pair>, Refusal> {
+        let left = self.number(level)?;
+        let right = self.number(level)?;
+        Ok(Box::new(Pair { place, left, right }))
+    }
+}
+
+/// "b = 1..32 the count of phases"
+fn phases_allowed(b: i16) -> bool {
+    (1..=MOST_PHASES).contains(&b)
+}
+
+/// "an edge repeats a, b and c", whatever d is.
+fn repeats(edge: &Edge, before: &Edge) -> bool {
+    let same_transition = edge.transition == before.transition;
+    same_transition && edge.from == before.from && edge.to == before.to
+}

@@ -39,10 +39,6 @@ indicatorOf p = cond p (pos 1) (pos 0)
 unfoldable pub connectOf : ℕ → Bool → Bool → Bool
 connectOf kind p q = cond (eqb kind 0x23) (p && q) (cond (eqb kind 0x24) (p || q) (cond (eqb kind 0x25) (not p || q) (Bool·beq p q)))
 
--- whether the left operand alone decides: a false one of "and" and of "implies", a true one of "or"
-unfoldable pub decidesOf : ℕ → Bool → Bool
-decidesOf kind p = cond (eqb kind 0x23) (not p) (cond (eqb kind 0x24) p (cond (eqb kind 0x25) (not p) false))
-
 -- 27 equal, 28 less, 29 at most
 unfoldable pub compareOf : ℕ → ℤ → ℤ → Bool
 compareOf kind x y = cond (eqb kind 0x27) (eqZ x y) (cond (eqb kind 0x28) (ltZ x y) (leZ x y))
@@ -105,7 +101,7 @@ Fits (suc levels) want part state =
     × (want ≡ numberSort → In (number (suc levels) part state) bounds)
     × OperandsFit (λ p. Fits levels (signatureAt part 0 .over) p state) levels part (signatureAt part 0 .operands)
 
--- ---- a table of how many records each expression of a part has, by the record that it begins at
+-- ---- a table of 4096 entries: how many records each expression of a part has, by the record that it begins at
 pub record Spans (part table : List ℕ) : Type 0 where
-  pub enough : length part ≤ 8 * length table
+  pub enough : length part ≤ 32768
   pub right : (at levels want : ℕ) (state : List ℤ) → Fits levels want (partAt part at) state → getD table at 0 ≡ span levels (partAt part at)

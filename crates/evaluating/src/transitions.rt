@@ -55,14 +55,14 @@ fn with(low: [i16; 12], high: [i16; 12], state: [i16; 12], i: usize, x: i64) -> 
 }
 
 // The assignment at record `at`, worked out from the state.
-fn assignment_at(file: &[u8], spans: &[u16], at: usize, state: [i16; 12]) -> Assignment
+fn assignment_at(file: &[u8], spans: &[u16; 4096], at: usize, state: [i16; 12]) -> Assignment
     requires fits { ⌜ Fits 16 numberSort (partAt (now file) (at + 1)) state ⌝ }
     requires spans { ⌜ Spans (now file) (now spans) ⌝ }
     ensures { λ r. ⌜ r ≡ assignmentAt (now (file .entry)) at state ⌝ }
 {
     let variable = byte_at(file, 8 * at + 1) as usize;
     let from = at + 1;
-    let value = number_at(&file[8 * from..], &spans[from..], state, 16);
+    let value = number_at(&file[8 * from..], spans, from, state, 16);
     Assignment {
         variable,
         value,
@@ -73,7 +73,7 @@ fn assignment_at(file: &[u8], spans: &[u16], at: usize, state: [i16; 12]) -> Ass
 // The assignments from record `first` on, each worked out from the state before any is made.
 fn assign(
     file: &[u8],
-    spans: &[u16],
+    spans: &[u16; 4096],
     first: usize,
     low: [i16; 12],
     high: [i16; 12],
@@ -110,7 +110,7 @@ fn assign(
 // The transition at record `at`.
 pub fn step(
     file: &[u8],
-    spans: &[u16],
+    spans: &[u16; 4096],
     at: usize,
     low: [i16; 12],
     high: [i16; 12],
@@ -121,7 +121,7 @@ pub fn step(
     ensures { λ r. ⌜ r ≡ stepOf low high (now (file .entry)) at state ⌝ }
 {
     let from = at + 1;
-    if !truth_at(&file[8 * from..], &spans[from..], state, 16) {
+    if !truth_at(&file[8 * from..], spans, from, state, 16) {
         return Stepped {
             guard: false,
             enabled: false,

@@ -199,7 +199,13 @@ pub(crate) fn test_of(
 }
 
 // Whether a truth at one of the places holds.
-fn some_holds(file: &[u8], spans: &[u16], places: [u16; 32], count: usize, state: [i16; 12]) -> bool
+fn some_holds(
+    file: &[u8],
+    spans: &[u16; 4096],
+    places: [u16; 32],
+    count: usize,
+    state: [i16; 12],
+) -> bool
     requires spans { ⌜ Spans (now file) (now spans) ⌝ }
     requires most { ⌜ count ≤ 32 ⌝ }
     requires fits { ⌜ ((i : ℕ) → i < count → Fits 16 truthSort (partAt (now file) (getD places i 0)) state) ⌝ }
@@ -219,7 +225,7 @@ fn some_holds(file: &[u8], spans: &[u16], places: [u16; 32], count: usize, state
 // Whether what a condition's premise must imply is true at a state.
 pub(crate) fn concludes(
     file: &[u8],
-    spans: &[u16],
+    spans: &[u16; 4096],
     low: [i16; 12],
     high: [i16; 12],
     test: Test,
@@ -256,7 +262,7 @@ pub(crate) fn concludes(
 // Whether a condition holds at a state: its conclusion is looked at only where its premise is true.
 pub(crate) fn passes(
     file: &[u8],
-    spans: &[u16],
+    spans: &[u16; 4096],
     low: [i16; 12],
     high: [i16; 12],
     test: Test,

@@ -108,4 +108,4 @@ module _ (file : List ℕ) where
       go i m false is = let ne = eqb-false i at is in rw (getD-set-other table at i v 0 ne) (f .entry i (omega arith))
 
   pub filled-end : (table : List ℕ) (at : ℕ) → length file ≤ 32768 → at ≤ 0 → Filled file table at → Spans file table
-  filled-end table at l z f = record { enough = omega (arith, f .size); right = λ i. f .entry i (omega arith) .right }
+  filled-end table at l z f = record { enough = l; right = λ i. f .entry i (omega arith) .right }

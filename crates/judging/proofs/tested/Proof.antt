@@ -91,9 +91,6 @@ state-of-requires c κs = let d = c .before .before in state-asks (ready d) (d .
 spans-of-requires : tie.Need-spans-of-requires
 spans-of-requires c κs = small _ _ (start (c .before .before .before) .pre)
 
-slice-aggregate-passes : tie.Need-slice-aggregate-passes
-slice-aggregate-passes c = search needs
-
 passes-requires : tie.Need-passes-requires
 passes-requires c κs =
     let s = c .before .before in
@@ -125,7 +122,6 @@ tested-spec =
     test-of-requires
     state-of-requires
     spans-of-requires
-    slice-aggregate-passes
     passes-requires
     returns-3
     returns-4)

@@ -14,35 +14,23 @@ here : (s : tie.Start) → 8 * s .args .at + 8 ≤ length (s .args .file .now)
 here s = fits-here (s .args .file .now) (s .args .at) 16 truthSort (s .args .state) (s .pre .0)
 
 mul-truth-at : tie.Need-mul-truth-at
-mul-truth-at c = omega (arith, here (c .before .before))
+mul-truth-at c = omega (arith, here (c .before))
 
 sub-truth-at : tie.Need-sub-truth-at
-sub-truth-at c = omega (arith, here (c .before .before))
+sub-truth-at c = omega (arith, here (c .before))
 
 part-truth-at-start : tie.Need-part-truth-at-start
-part-truth-at-start c = omega (arith, here (c .before .before))
+part-truth-at-start c = omega (arith, here (c .before))
 
 part-truth-at-end : tie.Need-part-truth-at-end
 part-truth-at-end c = search needs
 
-mul-truth-at-2 : tie.Need-mul-truth-at-2
-mul-truth-at-2 c = omega (arith, here (c .before .before .before))
-
-sub-truth-at-2 : tie.Need-sub-truth-at-2
-sub-truth-at-2 c = omega (arith, here (c .before .before .before))
-
-part-truth-at-start-2 : tie.Need-part-truth-at-start-2
-part-truth-at-start-2 c = omega (arith, here (c .before .before .before))
-
-part-truth-at-end-2 : tie.Need-part-truth-at-end-2
-part-truth-at-end-2 c = search needs
-
 truth-at-requires : tie.Need-truth-at-requires
-truth-at-requires c κs = let s = c .before .before .before .before in lent _ _ (s .pre .1) truthSort (s .args .at) _ (s .pre .0)
+truth-at-requires c κs = let s = c .before .before in lent _ _ (s .pre .1) truthSort (s .args .at) _ (s .pre .0)
 
 returns : tie.Need-returns
 unfolding holdsOf
-returns c = let s = c .before .before .before .before .before in rw (c .truth-at .ensures, take-rest (8 * s .args .at) (s .args .file .now))
+returns c = let s = c .before .before .before in rw (c .truth-at .ensures, take-rest (8 * s .args .at) (s .args .file .now))
 
 pub holds-spec : {M : Type 1} → statement M
 holds-spec =
@@ -52,9 +40,5 @@ holds-spec =
     sub-truth-at
     part-truth-at-start
     part-truth-at-end
-    mul-truth-at-2
-    sub-truth-at-2
-    part-truth-at-start-2
-    part-truth-at-end-2
     truth-at-requires
     returns)

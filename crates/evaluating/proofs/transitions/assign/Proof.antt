@@ -20,7 +20,7 @@ abbrev μ-loop : tie.MeasureT-loop
 μ-loop file spans first low high state next₀ at₀ left₀ next at left = left
 
 loop-holds : tie.Need-loop-holds Inv-loop μ-loop
-loop-holds c = left-begins _ _ _ _ _ _ (c .before .before .pre .1)
+loop-holds c = left-begins _ _ _ _ _ _ (c .before .pre .1)
 
 kind-is-requires : tie.Need-kind-is-requires Inv-loop μ-loop
 kind-is-requires c κs = tt
@@ -32,7 +32,7 @@ assignment-at-requires : tie.Need-assignment-at-requires Inv-loop μ-loop
 assignment-at-requires c κs = (
   fits-more _ _ _ {n = c .before .before .before .loop .left - 1} (omega (arith, c .before .before .loop-test .taken))
       (sym (c .before .kind-is .ensures) ∙ not-false _ (c .if1 .left)) (c .before .before .before .loop .inv .fit) .1,
-  c .before .before .before .before .before .before .pre .0,
+  c .before .before .before .before .before .pre .0,
 )
 
 -- the variable is one of twelve

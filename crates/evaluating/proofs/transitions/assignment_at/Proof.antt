@@ -7,7 +7,7 @@ use Rattle.integers.proofs.Laws.Parts.{back}
 use Rattle.parsing.specs.Kind.{number as numberSort}
 use Rattle.evaluating.specs.Transition.{assignmentAt}
 use Rattle.evaluating.proofs.Laws.Expression.{fits-here}
-use Rattle.evaluating.proofs.Steps.Part.{take-rest, lent, behind-is, behind-within}
+use Rattle.evaluating.proofs.Steps.Part.{take-rest, lent, entry, behind-is, behind-within}
 use borrow.Author.Needs.{needs}
 use Rattle.evaluating.proofs.transitions.assignment_at.Statement.{statement}
 use Rattle.evaluating.proofs.transitions.assignment_at.Tie as tie
@@ -19,10 +19,10 @@ end : (s : tie.Start) → 8 * (s .args .at + 1 + getD (s .args .spans .now) (s .
 end s = behind-within _ _ (s .pre .1) numberSort (s .args .at + 1) _ (s .pre .0)
 
 mul-byte-at : tie.Need-mul-byte-at
-mul-byte-at c = omega (arith, here (c .before .before))
+mul-byte-at c = omega (arith, here (c .before))
 
 add-byte-at : tie.Need-add-byte-at
-add-byte-at c = omega (arith, here (c .before .before))
+add-byte-at c = omega (arith, here (c .before))
 
 byte-at-requires : tie.Need-byte-at-requires
 byte-at-requires c κs = search needs
@@ -31,54 +31,42 @@ cast-variable : tie.Need-cast-variable
 cast-variable c = search needs
 
 add-from : tie.Need-add-from
-add-from c = omega (arith, here (c .before .before .before))
+add-from c = omega (arith, here (c .before .before))
 
 mul-number-at : tie.Need-mul-number-at
-mul-number-at c = omega (arith, here (c .before .before .before))
+mul-number-at c = omega (arith, here (c .before .before))
 
 sub-number-at : tie.Need-sub-number-at
-sub-number-at c = omega (arith, here (c .before .before .before))
+sub-number-at c = omega (arith, here (c .before .before))
 
 part-number-at-start : tie.Need-part-number-at-start
-part-number-at-start c = omega (arith, here (c .before .before .before))
+part-number-at-start c = omega (arith, here (c .before .before))
 
 part-number-at-end : tie.Need-part-number-at-end
 part-number-at-end c = search needs
 
-mul-number-at-2 : tie.Need-mul-number-at-2
-mul-number-at-2 c = omega (arith, here (c .before .before .before .before))
-
-sub-number-at-2 : tie.Need-sub-number-at-2
-sub-number-at-2 c = omega (arith, here (c .before .before .before .before))
-
-part-number-at-start-2 : tie.Need-part-number-at-start-2
-part-number-at-start-2 c = omega (arith, here (c .before .before .before .before))
-
-part-number-at-end-2 : tie.Need-part-number-at-end-2
-part-number-at-end-2 c = search needs
-
 number-at-requires : tie.Need-number-at-requires
-number-at-requires c κs = let s = c .before .before .before .before .before in lent _ _ (s .pre .1) numberSort (s .args .at + 1) _ (s .pre .0)
+number-at-requires c κs = let s = c .before .before .before in lent _ _ (s .pre .1) numberSort (s .args .at + 1) _ (s .pre .0)
 
 mul-t9 : tie.Need-mul-t9
-mul-t9 c = omega (arith, here (c .before .before .before .before .before .before))
+mul-t9 c = omega (arith, here (c .before .before .before .before))
 
-shared-slice-read-t20 : tie.Need-shared-slice-read-t20
-shared-slice-read-t20 c = omega (arith, here (c .before .before .before .before .before .before .before))
+element-copy-out-t16 : tie.Need-element-copy-out-t16
+element-copy-out-t16 c = let s = c .before .before .before .before in omega (arith, entry _ _ (s .pre .1) numberSort (s .args .at + 1) _ (s .pre .0))
 
-cast-t16 : tie.Need-cast-t16
-cast-t16 c = let s = c .before .before .before .before .before .before .before in omega (arith, here s, end s)
+cast-t10 : tie.Need-cast-t10
+cast-t10 c = let s = c .before .before .before .before .before in omega (arith, here s, end s)
 
-add-t14 : tie.Need-add-t14
-add-t14 c = let s = c .before .before .before .before .before .before .before in omega (arith, here s, end s)
+add-t17 : tie.Need-add-t17
+add-t17 c = let s = c .before .before .before .before .before in omega (arith, here s, end s)
 
 returns : tie.Need-returns
 unfolding assignmentAt
-returns c = let s = c .before .before .before .before .before .before .before in
+returns c = let s = c .before .before .before .before .before in
     let x = c .before .number-at in
     rw (
       back w64 (x .result) (x .ok),
-      c .before .before .before .before .byte-at .ensures,
+      c .before .before .before .byte-at .ensures,
       x .ensures,
       take-rest (8 * (s .args .at + 1)) (s .args .file .now),
     )
@@ -97,13 +85,9 @@ assignment-at-spec =
     sub-number-at
     part-number-at-start
     part-number-at-end
-    mul-number-at-2
-    sub-number-at-2
-    part-number-at-start-2
-    part-number-at-end-2
     number-at-requires
     mul-t9
-    shared-slice-read-t20
-    cast-t16
-    add-t14
+    element-copy-out-t16
+    cast-t10
+    add-t17
     returns)

@@ -7,7 +7,7 @@ use borrow.Author.Tests.{not-true, not-false}
 use Rattle.parsing.specs.Kind.{truth as truthSort}
 use Rattle.evaluating.specs.Transition.{guardOf}
 use Rattle.evaluating.proofs.Laws.Expression.{fits-here}
-use Rattle.evaluating.proofs.Steps.Part.{take-rest, lent, behind-is, behind-within}
+use Rattle.evaluating.proofs.Steps.Part.{take-rest, lent, entry, behind-is, behind-within}
 use Rattle.evaluating.proofs.Steps.Transition.{step-off, step-on}
 use borrow.Author.Needs.{needs}
 use Rattle.evaluating.proofs.transitions.step.Statement.{statement}
@@ -20,60 +20,48 @@ end : (s : tie.Start) → 8 * (s .args .at + 1 + getD (s .args .spans .now) (s .
 end s = behind-within _ _ (s .pre .0) truthSort (s .args .at + 1) _ (s .pre .1 .guard)
 
 add-from : tie.Need-add-from
-add-from c = omega (arith, here (c .before .before))
+add-from c = omega (arith, here (c .before))
 
 mul-truth-at : tie.Need-mul-truth-at
-mul-truth-at c = omega (arith, here (c .before .before))
+mul-truth-at c = omega (arith, here (c .before))
 
 sub-truth-at : tie.Need-sub-truth-at
-sub-truth-at c = omega (arith, here (c .before .before))
+sub-truth-at c = omega (arith, here (c .before))
 
 part-truth-at-start : tie.Need-part-truth-at-start
-part-truth-at-start c = omega (arith, here (c .before .before))
+part-truth-at-start c = omega (arith, here (c .before))
 
 part-truth-at-end : tie.Need-part-truth-at-end
 part-truth-at-end c = search needs
 
-mul-truth-at-2 : tie.Need-mul-truth-at-2
-mul-truth-at-2 c = omega (arith, here (c .before .before .before))
-
-sub-truth-at-2 : tie.Need-sub-truth-at-2
-sub-truth-at-2 c = omega (arith, here (c .before .before .before))
-
-part-truth-at-start-2 : tie.Need-part-truth-at-start-2
-part-truth-at-start-2 c = omega (arith, here (c .before .before .before))
-
-part-truth-at-end-2 : tie.Need-part-truth-at-end-2
-part-truth-at-end-2 c = search needs
-
 truth-at-requires : tie.Need-truth-at-requires
-truth-at-requires c κs = let s = c .before .before .before .before in lent _ _ (s .pre .0) truthSort (s .args .at + 1) _ (s .pre .1 .guard)
+truth-at-requires c κs = let s = c .before .before in lent _ _ (s .pre .0) truthSort (s .args .at + 1) _ (s .pre .1 .guard)
 
 returns : tie.Need-returns
 unfolding guardOf
-returns c = let s = c .before .before .before .before .before .before in
+returns c = let s = c .before .before .before .before in
     step-off _ _ _ _ _
     ((rw (take-rest (8 * (s .args .at + 1)) (s .args .file .now)) at (sym (c .before .truth-at .ensures))) ∙ not-true _ (c .if1 .taken))
 
 mul-assign : tie.Need-mul-assign
-mul-assign c = omega (arith, here (c .before .before .before .before .before .before))
+mul-assign c = omega (arith, here (c .before .before .before .before))
 
-shared-slice-read-assign : tie.Need-shared-slice-read-assign
-shared-slice-read-assign c = omega (arith, here (c .before .before .before .before .before .before .before))
+element-copy-out-assign : tie.Need-element-copy-out-assign
+element-copy-out-assign c = let s = c .before .before .before .before in entry _ _ (s .pre .0) truthSort (s .args .at + 1) _ (s .pre .1 .guard)
 
 cast-assign : tie.Need-cast-assign
-cast-assign c = let s = c .before .before .before .before .before .before .before in omega (arith, here s, end s)
+cast-assign c = let s = c .before .before .before .before .before in omega (arith, here s, end s)
 
 add-assign : tie.Need-add-assign
-add-assign c = let s = c .before .before .before .before .before .before .before in omega (arith, here s, end s)
+add-assign c = let s = c .before .before .before .before .before in omega (arith, here s, end s)
 
 assign-requires : tie.Need-assign-requires
-assign-requires c κs = let s = c .before .before .before .before .before .before .before in
+assign-requires c κs = let s = c .before .before .before .before .before in
     (s .pre .0, rw (behind-is _ _ (s .pre .0) truthSort (s .args .at + 1) _ (s .pre .1 .guard)) (s .pre .1 .assignments))
 
 returns-2 : tie.Need-returns-2
 unfolding guardOf
-returns-2 c = let s = c .before .before .before .before .before .before .before .before .before in
+returns-2 c = let s = c .before .before .before .before .before .before .before in
     step-on _ _ _ _ _
     ((rw (take-rest (8 * (s .args .at + 1)) (s .args .file .now)) at (sym (c .before .before .before .before .truth-at .ensures))) ∙ not-false _
     (c .before .before .before .if1 .left))
@@ -88,14 +76,10 @@ step-spec =
     sub-truth-at
     part-truth-at-start
     part-truth-at-end
-    mul-truth-at-2
-    sub-truth-at-2
-    part-truth-at-start-2
-    part-truth-at-end-2
     truth-at-requires
     returns
     mul-assign
-    shared-slice-read-assign
+    element-copy-out-assign
     cast-assign
     add-assign
     assign-requires

@@ -12,14 +12,14 @@ enum-told : tie.Need-enum-told
 enum-told c = search needs
 
 some-holds-requires : tie.Need-some-holds-requires
-some-holds-requires c κs = let p = c .before .before .before .before .before .pre in (p .0, (p .1 .1 .few, λ i l. p .1 .1 .targets i l _ (p .1 .0)))
+some-holds-requires c κs = let p = c .before .before .before .before .pre in (p .0, (p .1 .1 .few, λ i l. p .1 .1 .targets i l _ (p .1 .0)))
 
 enum-told-2 : tie.Need-enum-told-2
 enum-told-2 c = search needs
 
 step-requires : tie.Need-step-requires
 step-requires c κs =
-    let p = c .before .before .before .before .before .pre in
+    let p = c .before .before .before .before .pre in
     (p .0, p .1 .1 .transition (steps-apart (c .enum-told2 .given .1) refl) _ (p .1 .0))
 
 enum-told-3 : tie.Need-enum-told-3
@@ -27,7 +27,7 @@ enum-told-3 c = search needs
 
 step-requires-2 : tie.Need-step-requires-2
 step-requires-2 c κs =
-    let p = c .before .before .before .before .before .pre in
+    let p = c .before .before .before .before .pre in
     (p .0, p .1 .1 .transition (steps-apart (c .enum-told3 .given .1) refl) _ (p .1 .0))
 
 returns : tie.Need-returns
@@ -36,7 +36,7 @@ returns c =
 
 some-holds-requires-2 : tie.Need-some-holds-requires-2
 some-holds-requires-2 c κs =
-    let p = c .before .before .before .before .before .before .before .before .before .pre in
+    let p = c .before .before .before .before .before .before .before .before .pre in
     let w = next-within _ _ _ _ _ (c .before .before .before .step2 .ensures) (not-false _ (c .before .if1 .left)) (p .1 .0) in
     (p .0, (p .1 .1 .few, λ i l. p .1 .1 .targets i l _ w))
 
@@ -45,7 +45,7 @@ enum-told-4 c = search needs
 
 step-requires-3 : tie.Need-step-requires-3
 step-requires-3 c κs =
-    let p = c .before .before .before .before .before .pre in
+    let p = c .before .before .before .before .pre in
     (p .0, p .1 .1 .transition (steps-apart (c .enum-told4 .given .1) refl) _ (p .1 .0))
 
 returns-2 : tie.Need-returns-2

@@ -7,7 +7,7 @@ use Rattle.judging.proofs.testing.passes.Statement.{statement}
 use Rattle.judging.proofs.testing.passes.Tie as tie
 
 holds-requires : tie.Need-holds-requires
-holds-requires c κs = let p = c .before .before .pre in (p .1 .1 .premise _ (p .1 .0), p .0)
+holds-requires c κs = let p = c .before .pre in (p .1 .1 .premise _ (p .1 .0), p .0)
 
 returns : tie.Need-returns
 returns c = sym (passes-vacuous _ _ _ _ _ (c .before .holds .ensures) (not-true _ (c .if1 .taken)))

@@ -103,9 +103,6 @@ advance-requires c κs =
     advance-asks (ready (d .before .before .before)) (d .before .conditions-test .taken) (d .condition-at .ensures)
     (c .before .before .test-of .ensures) (c .before .states .inv) (c .states-test .taken)
 
-slice-aggregate-holds : tie.Need-slice-aggregate-holds Inv-states μ-states Inv-conditions μ-conditions
-slice-aggregate-holds c = search (needs, table (c .before .before) .spans-of .ok)
-
 holds-requires : tie.Need-holds-requires Inv-states μ-states Inv-conditions μ-conditions
 holds-requires c κs =
     let t = c .before .before in
@@ -114,9 +111,6 @@ holds-requires c κs =
     passed-asks (ready (d .before .before .before)) (d .before .conditions-test .taken) (d .condition-at .ensures)
     (t .before .before .test-of .ensures) (t .before .states .inv) (t .states-test .taken) in
     (asks .1 .premise _ (asks .0), table t .spans-of .ensures)
-
-slice-aggregate-concludes : tie.Need-slice-aggregate-concludes Inv-states μ-states Inv-conditions μ-conditions
-slice-aggregate-concludes c = search (needs, table (c .before .before .before .before .before) .spans-of .ok)
 
 concludes-requires : tie.Need-concludes-requires Inv-states μ-states Inv-conditions μ-conditions
 concludes-requires c κs =
@@ -207,9 +201,7 @@ judge-spec =
     test-of-requires
     states-holds
     advance-requires
-    slice-aggregate-holds
     holds-requires
-    slice-aggregate-concludes
     concludes-requires
     add-n
     states-less

@@ -1,11 +1,11 @@
 -- The line with the digits of the first i bytes: behind them it has line feeds.
 -- Assumes nothing.
-use mathlib.Core.Path.{_≡_, refl, sym, ap, ap₂, _∙_}
+use mathlib.Core.Path.{_≡_, refl, ap, ap₂, _∙_}
 use mathlib.Core.List.{List, [], _∷_, _++_, append-assoc}
 use Prim.Native.Nat.{ℕ, suc, _+_, _-_, _*_, _/_, _%_, _≤_, _<_}
 use native.Mathlib.Numerals.{add-one}
 use native.Mathlib.Omega.{arith}
-use lib.ListN.{length, take, getD, set, replicate, length-append, length-set, length-replicate}
+use lib.ListN.{length, take, getD, set, replicate}
 use lib.Seq.{take-suc, take-all, length-take-le}
 use Rattle.judging.proofs.Laws.Report.{set-pair-at}
 use Rattle.vdcheck.specs.Printing.{digitOf, digitsOf, lineOf}
@@ -42,11 +42,6 @@ module _ (report : List ℕ) where
   module _ (all : length report ≡ 32) where
     head-length : (i : ℕ) → i < 32 → length (digitsOf (take i report)) ≡ 2 * i
     head-length i h = digits-length (take i report) ∙ ap (λ n. 2 * n) (length-take-le i report (omega arith))
-
-    pub spelt-length : (i : ℕ) → i ≤ 32 → length (spelt i) ≡ 65
-    unfolding spelt
-    spelt-length i h =
-        rw (length-append, length-replicate, digits-length (take i report), length-take-le i report (omega arith)) (omega arith)
 
     before : (i : ℕ) → i < 32 → spelt i ≡ digitsOf (take i report) ++ 10 ∷ 10 ∷ replicate (63 - 2 * i) 10
     unfolding spelt

@@ -21,13 +21,21 @@ receive-some-requires : tie.Need-receive-some-requires Inv-loop μ-loop
 receive-some-requires c κs = search needs
 
 add-length : tie.Need-add-length Inv-loop μ-loop
-add-length c = omega (arith, c .before .before .before .before .before .receive-some .ensures, c .before .before .before .before .buffer .given, c .before .before .before .before .before .before .before .before .loop .inv .0, c .before .before .before .before .before .before .before .before .loop .inv .1, c .before .before .before .before .before .before .before .before .before .before .good .0)
+add-length c =
+    let b = c .before .before .before .before in
+    let l = b .before .before .before .before in
+    omega (arith, b .before .receive-some .ensures, b .buffer .given, l .loop .inv .0, l .loop .inv .1, l .before .before .good .0)
 
 loop-less : tie.Need-loop-less Inv-loop μ-loop
-loop-less c = omega (arith, c .before .before .before .before .before .receive-some .ensures, c .before .before .before .before .buffer .given, c .before .before .before .before .before .before .before .before .loop .inv .0, c .before .before .before .before .before .before .before .before .loop .inv .1, c .before .if1 .left, c .before .before .before .before .before .before .before .loop-test .taken)
+loop-less c =
+    let b = c .before .before .before .before in
+    let l = b .before .before .before .before in
+    omega (arith, b .before .receive-some .ensures, b .buffer .given, l .loop .inv .0, c .before .if1 .left)
 
 loop-again : tie.Need-loop-again Inv-loop μ-loop
-loop-again c = (c .before .before .before .before .before .receive-some .ensures, omega (arith, c .before .before .before .before .buffer .given, c .before .before .before .before .before .before .before .before .loop .inv .1))
+loop-again c =
+    let b = c .before .before .before .before in
+    (b .before .receive-some .ensures, omega (arith, b .buffer .given, b .before .before .before .before .loop .inv .1))
 
 same-length : tie.Need-same-length Inv-loop μ-loop
 same-length c = search needs
@@ -39,7 +47,10 @@ same-length-2 : tie.Need-same-length-2 Inv-loop μ-loop
 same-length-2 c = c .before .before .before .buffer .given ∙ c .before .before .before .before .before .before .before .loop .inv .1
 
 returns-2 : tie.Need-returns-2 Inv-loop μ-loop
-returns-2 c = let l : c .before .before .before .before .before .before .before .loop .length ≤ size (c .before .before .before .before .receive-some .last .0) = omega (arith, c .before .before .before .before .receive-some .ensures) in (l, sym (length-take-le _ _ l))
+returns-2 c =
+    let r = c .before .before .before .before in
+    let l : r .before .before .before .loop .length ≤ size (r .receive-some .last .0) = omega (arith, r .receive-some .ensures) in
+    (l, sym (length-take-le _ _ l))
 
 pub receive-spec : {M : Type 1} → statement M
 receive-spec =

@@ -4,8 +4,8 @@ use borrow.Author.Needs.{needs}
 use Prim.Native.Nat.{_-_}
 use mathlib.Core.Path.{_≡_}
 use native.Mathlib.Omega.{arith}
-use lib.ListN.{length, length-set}
-use Rattle.vdcheck.proofs.Steps.Printing.{Spelt, spelt-begin, spelt-length, spelt-more, spelt-end}
+use lib.ListN.{length}
+use Rattle.vdcheck.proofs.Steps.Printing.{Spelt, spelt-begin, spelt-more, spelt-end}
 use Rattle.vdcheck.proofs.printing.line.Statement.{statement}
 use Rattle.vdcheck.proofs.printing.line.Tie as tie
 

@@ -123,16 +123,16 @@ def phases(s):
     return d
 
 
-def waiting(s):
-    """Editor 0, where it waits, gets the page; with the fair lock. The nodes go up from the goal
-    against the page's way: handed to editor 0, then the other editors, last first, then free."""
-    waits, others = s.pc[0] == WAITS, s.after(0)
-    d = Diagram(s, chain(p=all_of(waits, s.orderly()), q=s.pc[0] == HOLDS))
-    goal, handed = d.node(s.pc[0] == HOLDS), d.node(all_of(s.owned(0, WAITS)))
-    at = {(i, phase): d.node(all_of(waits, s.owned(i, phase, 0)))
+def waiting(s, editor):
+    """An editor, where it waits, gets the page; with the fair lock. The nodes go up from the goal
+    against the page's way: handed to the editor, then the others, last first, then free."""
+    waits, take, others = s.pc[editor] == WAITS, s["lock%d" % editor], s.after(editor)
+    d = Diagram(s, chain(p=all_of(waits, s.orderly()), q=s.pc[editor] == HOLDS))
+    goal, handed = d.node(s.pc[editor] == HOLDS), d.node(all_of(s.owned(editor, WAITS)))
+    at = {(i, phase): d.node(all_of(waits, s.owned(i, phase, editor)))
           for i in reversed(others) for phase in reversed(s.phases())}
-    free = d.node(all_of(waits, s.free(0)))
-    d.double(s["lock0"], free, goal)
+    free = d.node(all_of(waits, s.free(editor)))
+    d.double(take, free, goal)
     for i in others:
         d.edge(s["lock%d" % i], free, at[i, HOLDS])
     for n, i in enumerate(others):
@@ -141,7 +141,7 @@ def waiting(s):
         d.double(s["name%d" % i], at[i, TEXT], at[i, NAME])
         d.double(s["release%d" % i], at[i, NAME],
                  *(at[j, WAITS] for j in others[n + 1:]), handed)
-    d.double(s["lock0"], handed, goal)
+    d.double(take, handed, goal)
     return d
 
 
@@ -213,7 +213,19 @@ EXAMPLES = [
         editor 0 waits, that the rules are kept: an editor past waiting has the page, and an editor
         that has it at least waits. That is the first part of the claim of pages-names, true at
         every position of a run from the start.
-        """, waiting(Pages(3, 3, fair=True)), accepted(312)),
+        """, waiting(Pages(3, 3, fair=True), 0), accepted(312)),
+    Example("pages-waiting-1", """
+        The claim of pages-waiting for editor 1: where it waits it comes to have the page, on every
+        just run. The rules are the same, and so is the diagram, but that the page's way leads to
+        editor 1: nodes 5 to 2 are editor 0 with the page, nodes 9 to 6 editor 2. The checker
+        accepts.
+        """, waiting(Pages(3, 3, fair=True), 1), accepted(312)),
+    Example("pages-waiting-2", """
+        The claim of pages-waiting for editor 2: where it waits it comes to have the page, on every
+        just run. The rules are the same, and so is the diagram, but that the page's way leads to
+        editor 2: nodes 5 to 2 are editor 1 with the page, nodes 9 to 6 editor 0. The checker
+        accepts. With pages-waiting and pages-waiting-1 this is the claim for every editor.
+        """, waiting(Pages(3, 3, fair=True), 2), accepted(312)),
     Example("pages-waiting-plain", """
         The three editors with a plain lock: release makes the page free, and whichever waiting
         editor comes first takes it. The claim is that of pages-waiting, editor 0 gets the page

@@ -1,5 +1,6 @@
 pub mod Search
 pub mod Each
+pub mod Every
 pub mod Double
 pub mod Condition
 pub mod Targets
@@ -17,5 +18,6 @@ pub mod Listed
 pub mod Sound
 pub mod System
 pub mod Verdict
+pub mod Acceptance
 pub mod Report
 pub mod Check

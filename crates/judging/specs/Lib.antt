@@ -6,6 +6,7 @@ pub mod Holding
 pub mod Layout
 pub mod Testing
 pub mod Verdict
+pub mod Acceptance
 pub mod Report
 pub mod Run
 pub mod Claim

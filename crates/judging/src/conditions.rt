@@ -26,7 +26,7 @@ pub struct Blocks {
     pub size: usize,
 }
 
-fn layout(file: &[u8], outline: Outline) -> Blocks
+pub(crate) fn layout(file: &[u8], outline: Outline) -> Blocks
     requires { ⌜ readOf (now file) ≡ Reading.Readable outline ⌝ }
     ensures { λ r. ⌜ r ≡ layoutOf (now (file .entry)) outline ⌝ }
 {

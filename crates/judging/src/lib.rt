@@ -26,6 +26,7 @@ ghost use Rattle.judging.specs.Verdict.{checkOf, testedOf, singleOf};
 ghost use Rattle.judging.specs.Report.{reportOf};
 ghost use Rattle.judging.specs.System.{Claim};
 
+pub mod acceptance;
 pub mod conditions;
 pub mod report;
 pub mod testing;

@@ -117,7 +117,7 @@ fn none() -> Targets
 }
 
 // Where expression i of the property stands.
-fn claimed_at(file: &[u8], outline: Outline, i: usize) -> usize
+pub(crate) fn claimed_at(file: &[u8], outline: Outline, i: usize) -> usize
     requires { ⌜ readOf (now file) ≡ Reading.Readable outline ⌝ }
     ensures { λ r. ⌜ r ≡ claimedAt (now (file .entry)) outline i ⌝ }
 {
@@ -129,7 +129,7 @@ fn claimed_at(file: &[u8], outline: Outline, i: usize) -> usize
 }
 
 // Where the q that node i must imply stands.
-fn q_at(file: &[u8], outline: Outline, i: usize) -> usize
+pub(crate) fn q_at(file: &[u8], outline: Outline, i: usize) -> usize
     requires readable { ⌜ readOf (now file) ≡ Reading.Readable outline ⌝ }
     requires small { ⌜ i < outline .nodes ⌝ }
     ensures { λ r. ⌜ r ≡ qAt (now (file .entry)) outline i ⌝ }

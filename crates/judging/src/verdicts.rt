@@ -1,4 +1,5 @@
 // The verdict on a file: the lowest broken condition with the lowest state that breaks it; and what a single test answers.
+use crate::acceptance::held_states;
 use crate::conditions::Condition;
 use crate::conditions::condition_at;
 use crate::conditions::total;
@@ -11,17 +12,19 @@ use evaluating::states::advance;
 use evaluating::states::count;
 use evaluating::states::highs;
 use evaluating::states::lows;
+use evaluating::states::state_of;
 use parsing::outline::Outline;
 use parsing::sections::node_places;
 use parsing::sections::transition_places;
 use reading::Reading;
 use reading::read;
 ghost use mathlib.Core.Path.{_≡_};
-ghost use Prim.Native.Nat.{_≤_};
+ghost use Prim.Native.Nat.{_≤_, _<_};
 ghost use Rattle.reading.specs.declared.Reading.{Reading};
 ghost use Rattle.reading.specs.Read.{readOf};
-ghost use Rattle.judging.specs.Condition.{nodeNumber, transitionNumber};
-ghost use Rattle.judging.specs.Verdict.{unnamedOf, namedOf, judgedOf, verdictBy};
+ghost use Rattle.judging.specs.Condition.{totalOf, nodeNumber, transitionNumber};
+ghost use Rattle.judging.specs.Verdict.{statesOf, unnamedOf, namedOf, judgedOf, verdictBy};
+ghost use Rattle.judging.specs.Acceptance.{heldStatesOf, LookedUp};
 
 // What a single test answers: the refusal that meets it, with its number and its place; or whether the condition holds at the state.
 pub enum Single {
@@ -94,7 +97,57 @@ fn named(condition: Condition, number: u32, state: [i16; 12]) -> Verdict
     }
 }
 
-// The verdict on a readable file. Each condition is prepared once, then tested at one state after the other.
+// The verdict on a readable file, by one condition after the other up to the first break. Each is prepared once, then tested at one state after the
+// other, those left out before which every condition holds.
+fn first_break(
+    file: &[u8],
+    outline: Outline,
+    spans: &[u16; 4096],
+    low: [i16; 12],
+    high: [i16; 12],
+    states: usize,
+    nodes: [usize; 32],
+    transitions: [usize; 32],
+    total: usize,
+    held: usize,
+) -> Verdict
+    requires known { ⌜ LookedUp (now file) outline (now spans) low high nodes transitions ⌝ }
+    requires states { ⌜ states ≡ statesOf (now file) outline ⌝ }
+    requires total { ⌜ total ≡ totalOf (now file) outline ⌝ }
+    requires held { ⌜ held ≡ heldStatesOf (now file) outline ⌝ }
+    requires below { ⌜ held < states ⌝ }
+    ensures { λ r. ⌜ r ≡ judgedOf (now (file .entry)) outline ⌝ }
+{
+    let start = state_of(low, high, held);
+    let mut number: usize = 0;
+    let mut state = start;
+    'conditions: while number < total {
+        let condition = condition_at(file, outline, number);
+        let test = test_of(file, outline, nodes, transitions, condition);
+        let premise = test.premise;
+        state = start;
+        let mut n = held;
+        'states: while n < states {
+            // Worked out before the test, which then needn't wait for it.
+            let next = advance(low, high, outline.vars, state);
+            if holds(file, spans, premise, state) {
+                if !concludes(file, spans, low, high, test, state) {
+                    break 'conditions;
+                }
+            }
+            state = next;
+            n += 1;
+        }
+        number += 1;
+    }
+    if number < total {
+        let broken = condition_at(file, outline, number);
+        return named(broken, number as u32, state);
+    }
+    unnamed(0, total as u32)
+}
+
+// The verdict on a readable file: an acceptance where one pass finds that every condition holds at every state; else the first break is looked for.
 fn judge(file: &[u8], outline: Outline) -> Verdict
     requires { ⌜ readOf (now file) ≡ Reading.Readable outline ⌝ }
     ensures { λ r. ⌜ r ≡ judgedOf (now (file .entry)) outline ⌝ }
@@ -111,32 +164,31 @@ fn judge(file: &[u8], outline: Outline) -> Verdict
         outline.transition,
     );
     let total = total(file, outline);
-    let mut number: usize = 0;
-    let mut state = low;
-    'conditions: while number < total {
-        let condition = condition_at(file, outline, number);
-        let test = test_of(file, outline, nodes, transitions, condition);
-        let premise = test.premise;
-        state = low;
-        let mut n: usize = 0;
-        'states: while n < states {
-            // Worked out before the test, which then needn't wait for it.
-            let next = advance(low, high, outline.vars, state);
-            if holds(file, &spans, premise, state) {
-                if !concludes(file, &spans, low, high, test, state) {
-                    break 'conditions;
-                }
-            }
-            state = next;
-            n += 1;
-        }
-        number += 1;
+    let held = held_states(
+        file,
+        outline,
+        &spans,
+        low,
+        high,
+        states,
+        &nodes,
+        &transitions,
+    );
+    if held == states {
+        return unnamed(0, total as u32);
     }
-    if number < total {
-        let broken = condition_at(file, outline, number);
-        return named(broken, number as u32, state);
-    }
-    unnamed(0, total as u32)
+    first_break(
+        file,
+        outline,
+        &spans,
+        low,
+        high,
+        states,
+        nodes,
+        transitions,
+        total,
+        held,
+    )
 }
 
 // The verdict on a file.

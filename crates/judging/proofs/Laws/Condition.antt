@@ -3,11 +3,12 @@
 --     layout-invariance, layout-wait-for, layout-other       the layout of the conditions, by diagram
 --     opening-invariance, opening-other                      and the first condition
 --     layout-bounds               the layout stays within the limits
+--     conditions-from             the list, by the layout
 --     total-is, total-most        how many conditions there are, by the layout; at most 2,081
 --     total-invariance, total-wait-for, total-chain          how many, by diagram
 --     condition-opening, condition-cover, condition-move     the condition of a number, by the layout
 --     condition-listed            a number below the total has a condition of the list
---     listed-parts                what a listed condition speaks of is there
+--     listed-parts, cover-parts   what a listed condition, and the cover of a node covered, speaks of is there
 -- Assumes nothing.
 use mathlib.Core.Path.{_≡_, refl, sym, ap, ap₂, _∙_}
 use mathlib.Core.Logic.{_⊎_, inl, inr}
@@ -253,7 +254,8 @@ module _ (file : List ℕ) (o : Outline) where
 
   -- the counts that the code works with
   pub record Bounds (l : Blocks) : Type 0 where
-    pub covers : l .covers ≤ 32
+    pub nodes : o .nodes ≤ 32
+    pub covers : l .covers ≤ o .nodes
     pub from : l .from ≤ o .nodes
     pub product : (o .nodes - l .from) * l .size ≤ 2048
 
@@ -319,6 +321,10 @@ module _ (file : List ℕ) (o : Outline) (r : readOf file ≡ Reading.Readable o
           let b : diagram file o ≡ 2 → ⊥ = λ z. omega arith in
           rw (layout-chain file o c, opening-other file o a, ne-eqb (diagram file o) 1 a, ne-eqb (diagram file o) 2 b)
 
+  pub conditions-from : conditionsOf file o ≡ conditionsFrom file o (openingOf file o) (layout .covers) (layout .from)
+  unfolding conditionsFrom coversOf
+  conditions-from = conditions-laid
+
   pub total-is : totalOf file o ≡ 1 + layout .covers + (o .nodes - layout .from) * layout .size
   unfolding totalOf
   total-is = rw conditions-laid (blocks-length (openingOf file o) (layout .covers) (ofNode file o) _ _ _ sizes)
@@ -373,21 +379,24 @@ module _ (file : List ℕ) (o : Outline) (r : readOf file ≡ Reading.Readable o
       by (inl w) =
           rw (layout-wait-for file o w)
           (record {
-            covers = few;
+            nodes = few;
+            covers = omega arith;
             from = some;
             product = mul-le-mul {n₁ = o .nodes - 1} {m₁ = 2 * o .transitions} {n₂ = 32} {m₂ = 64} (omega (arith, few)) (omega (arith, short));
           })
       by (inr (inl i)) =
           rw (layout-invariance file o i)
           (record {
-            covers = few;
+            nodes = few;
+            covers = omega arith;
             from = omega arith;
             product = mul-le-mul {n₁ = o .nodes - 0} {m₁ = 2 * o .transitions} {n₂ = 32} {m₂ = 64} (omega (arith, few)) (omega (arith, short));
           })
       by (inr (inr c)) =
           rw (layout-chain file o c)
           (record {
-            covers = omega arith;
+            nodes = few;
+            covers = some;
             from = some;
             product =
                 let p : (o .nodes - 1) * (2 * o .transitions + 1) ≤ 31 * 65 =
@@ -397,7 +406,7 @@ module _ (file : List ℕ) (o : Outline) (r : readOf file ≡ Reading.Readable o
 
   -- at 32 nodes and 32 transitions of an invariance diagram there are as many
   pub total-most : totalOf file o ≤ 2081
-  total-most = rw total-is (omega (arith, layout-bounds .covers, layout-bounds .product))
+  total-most = rw total-is (omega (arith, layout-bounds .nodes, layout-bounds .covers, layout-bounds .product))
 
   pub total-invariance : diagram file o ≡ 1 → totalOf file o ≡ 1 + o .nodes + 2 * o .nodes * o .transitions
   total-invariance i = rw total-is (rw (layout-invariance file o i, sub-zero) (omega arith))
@@ -421,7 +430,7 @@ module _ (file : List ℕ) (o : Outline) (r : readOf file ≡ Reading.Readable o
       by (inr (inl i)) = rw (e, opening-invariance file o i) tt
       by (inr (inr k)) = rw (e, opening-other file o (λ z. omega arith)) (λ z. omega arith)
 
-  cover-parts : (c : Condition) (n : ℕ) → n < layout .covers → c ≡ Cover n → Parts file o c
+  pub cover-parts : (c : Condition) (n : ℕ) → n < layout .covers → c ≡ Cover n → Parts file o c
   cover-parts c n l e = rw e (by (property-kind file o r))
     where
       by : (diagram file o ≡ 2) ⊎ ((diagram file o ≡ 1) ⊎ (diagram file o ≡ 3)) → (n < o .nodes) × (diagram file o ≡ 3 → n ≡ 0)

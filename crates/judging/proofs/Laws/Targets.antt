@@ -24,7 +24,7 @@ use Rattle.parsing.specs.Kind.{truth as truthSort}
 use Rattle.parsing.specs.Section.{nodeOf, transitionOf, expressionsOf}
 use Rattle.parsing.specs.Place.{placeOf}
 use Rattle.parsing.specs.Search.{any}
-use Rattle.parsing.proofs.Laws.Place.{places-nth, getD-tabulate}
+use Rattle.parsing.proofs.Laws.Place.{places-nth}
 use Rattle.parsing.proofs.Laws.Search.{any-some}
 use Rattle.parsing.proofs.Laws.Section.{kind-here}
 use Rattle.reading.specs.declared.Reading.{Reading}
@@ -36,6 +36,7 @@ use Rattle.evaluating.specs.Expression.{holdsOf}
 use Rattle.judging.specs.Diagram.{nodeAt, nodeHolds, claimedAt, qAt, carries}
 use Rattle.judging.specs.Holding.{someNode, someTarget}
 use Rattle.judging.specs.Testing.{marksOf, chosenFrom, nodesOf, transitionsOf, someHolds}
+use Rattle.judging.proofs.Laws.Each.{tabulate-at}
 use Rattle.judging.proofs.Laws.Search.{or-second, any-at, any-same}
 
 -- ---- truths
@@ -268,7 +269,7 @@ module _ (file : List ℕ) (o : Outline) (r : readOf file ≡ Reading.Readable o
 
       marked-at : (j : ℕ) → j < 32 → getD (marksOf file o n t keep) j false ≡ marked j
       unfolding marksOf
-      marked-at j l = getD-tabulate marked false 32 0 j l ∙ ap marked (omega arith)
+      marked-at j l = tabulate-at marked false 32 j l
 
       marked-holds : (j : ℕ) → j < o .nodes → (getD (marksOf file o n t keep) j false && listedHolds j) ≡ (marked j && nodeHolds file o j state)
       marked-holds j l = let m = readable.nodes-within file o r .1 in ap₂ _&&_ (marked-at j (omega arith)) (listed-is j l)

@@ -1,6 +1,7 @@
 -- Laws of prepared tests.
 --     prepared      the test of a condition says what the condition says
 --     test-fits     what it speaks of can be evaluated at every state
+--     node-fits, claimed-fits, q-fits, transition-fits     and so can each node, claim, q and transition
 -- Assumes nothing.
 use mathlib.Core.Path.{_≡_, refl, ap, _∙_}
 use mathlib.Core.Bool.{Bool, true, false, not, cond, _&&_, _||_}
@@ -130,13 +131,13 @@ module _ (file : List ℕ) (o : Outline) (r : readOf file ≡ Reading.Readable o
     says (Enabling n t) p = refl
 
   -- ---- what they speak of
-  node-fits : (n : ℕ) → n < o .nodes → TruthFits lows highs file (nodeAt file o n + 1)
+  pub node-fits : (n : ℕ) → n < o .nodes → TruthFits lows highs file (nodeAt file o n + 1)
   node-fits n l state s = rw (node-stands file o r n l) (evaluable.assertion-fits file o r state s n l)
 
-  claimed-fits : (i : ℕ) → i < expressionsOf file (o .property) → TruthFits lows highs file (claimedAt file o i)
+  pub claimed-fits : (i : ℕ) → i < expressionsOf file (o .property) → TruthFits lows highs file (claimedAt file o i)
   claimed-fits i l state s = rw (claimed-stands file o r i l) (evaluable.claimed-fits file o r state s i l)
 
-  transition-fits : (t : ℕ) → t < o .transitions → (state : List ℤ) → Within lows highs state → TransitionFits file (transitionAt file o t) state
+  pub transition-fits : (t : ℕ) → t < o .transitions → (state : List ℤ) → Within lows highs state → TransitionFits file (transitionAt file o t) state
   transition-fits t l state s = rw (transition-stands file o r t l) (evaluable.transition-fits file o r state s t l)
 
   chosen-fit : (marks : List Bool) (i : ℕ) → i < length (chosenFrom marks (nodesOf file o) (o .nodes) 0)
@@ -148,7 +149,7 @@ module _ (file : List ℕ) (o : Outline) (r : readOf file ≡ Reading.Readable o
   chosen-few : (marks : List Bool) → length (chosenFrom marks (nodesOf file o) (o .nodes) 0) ≤ 32
   chosen-few marks = omega (arith, chosen-most marks (nodesOf file o) (o .nodes) 0, readable.nodes-within file o r .1)
 
-  q-fits : (n : ℕ) → n < o .nodes → (diagram file o ≡ 3 → n ≡ 0) → TruthFits lows highs file (qAt file o n)
+  pub q-fits : (n : ℕ) → n < o .nodes → (diagram file o ≡ 3 → n ≡ 0) → TruthFits lows highs file (qAt file o n)
   unfolding qAt
   q-fits n l z = claimed-fits (cond (eqb (diagram file o) 1) 0 (n + 1)) (q-claimed file o r n l z)
 

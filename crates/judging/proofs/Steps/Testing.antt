@@ -1,4 +1,4 @@
--- The nodes marked, the places chosen and the truths tried, one after the other; and a test, by what its premise and its step say.
+-- The marks of edges, the places chosen and the truths tried, one after the other; and a test, by what its premise and its step say.
 -- Assumes nothing.
 use mathlib.Core.Path.{_≡_, refl, sym, ap, subst, _∙_}
 use mathlib.Core.Bool.{Bool, true, false, not, cond, _&&_, _||_, false≢true, and-eq-true-iff}
@@ -36,23 +36,29 @@ use Rattle.judging.specs.Holding.{implies}
 use Rattle.judging.specs.Testing.{marksOf, chosenFrom, targetsOf, chosenOf, nodesOf, transitionsOf, preparedOf, testOf}
 use Rattle.judging.specs.Testing.{someHolds, targetsListed, concludesOf, passesOf}
 use Rattle.judging.specs.Layout.{doubleOf}
+use Rattle.judging.specs.Acceptance.{pairAt}
 use Rattle.judging.proofs.Laws.Condition.{Parts, listed-parts}
 use Rattle.judging.proofs.Laws.Double.{double-is}
 use Rattle.judging.proofs.Laws.Targets.{isMarked, chosen-last, chosen-most, node-at, transition-at, node-small}
 
--- ---- the nodes marked
--- the record of edge e is there, in a small file, and its target is one of at most 32 nodes
+-- ---- the marks of edges
+-- the record of edge e is there, in a small file; its target is one of at most 32 nodes, and its pair one of at most 1,024
 pub record EdgeHere (file : List ℕ) (o : Outline) (e : ℕ) : Type 0 where
   pub there : 8 * (o .edge + e) + 8 ≤ length file
   pub small : length file ≤ 32768
   pub target : fieldC file (o .edge + e) < 32
+  pub pair : pairAt file (o .edge + e) < 1024
 
 pub edge-here : (file : List ℕ) (o : Outline) → readOf file ≡ Reading.Readable o → (e : ℕ) → e < o .edges → EdgeHere file o e
+unfolding pairAt
 edge-here file o r e l =
+    let x = readable.edge file o r e l in
+    let few = readable.nodes-within file o r .1 in
     record {
       there = omega (arith, readable.fits file o r .edges-here);
       small = readable.small file o r;
-      target = omega (arith, readable.edge file o r e l .to, readable.nodes-within file o r .1);
+      target = omega (arith, x .to);
+      pair = omega (arith, x .from, x .transition, readable.transitions-within file o r);
     }
 
 eqb-swap : (a b : ℕ) → eqb a b ≡ eqb b a
@@ -103,50 +109,37 @@ mark-same true r = refl
 mark-same false true = refl
 mark-same false false = refl
 
-module _ (keep : Bool) (n edges edge : ℕ) (carried : ℕ → Bool) (to : ℕ → ℕ) where
+module _ (size : ℕ) (keep : Bool) (n edges edge : ℕ) (carried : ℕ → Bool) (to : ℕ → ℕ) where
   -- the marks that the first e edges make
   pub record Marked (marks : List Bool) (e : ℕ) : Type 0 where
     pub passed : e ≤ edges
-    pub size : length marks ≡ 32
-    pub each : (j : ℕ) → j < 32 → getD marks j false ≡ isMarked keep n e edge carried to j
-
-  pub marked-begin : n < 32 → Marked (set (replicate 32 false) n keep) 0
-  unfolding any
-  marked-begin l =
-      let s : length (replicate 32 false) ≡ 32 = length-replicate {A = Bool} 32 false in
-      record {
-        passed = omega arith;
-        size = length-set (replicate 32 false) n keep ∙ s;
-        each = λ j m.
-            set-mark (replicate 32 false) n j keep (omega arith)
-            ∙ ap (cond (eqb j n) keep) (getD-replicate {A = Bool} 32 j false false m)
-            ∙ mark-first (eqb j n) keep;
-      }
+    pub long : length marks ≡ size
+    pub each : (j : ℕ) → j < size → getD marks j false ≡ isMarked keep n e edge carried to j
 
   module _ {marks : List Bool} {e : ℕ} (k : Marked marks e) where
-    pub marked-end : edges ≤ e → marks ≡ tabulate (isMarked keep n edges edge carried to) 32 0
+    pub marked-end : edges ≤ e → marks ≡ tabulate (isMarked keep n edges edge carried to) size 0
     marked-end l =
         let same : e ≡ edges = omega (arith, k .passed) in
         let mark = isMarked keep n edges edge carried to in
-        ext-getD false marks (tabulate mark 32 0) (k .size ∙ sym (length-tabulate mark 32 0))
-        (λ j m. entry same j (subst (λ (s : ℕ). j < s) (k .size) m))
+        ext-getD false marks (tabulate mark size 0) (k .long ∙ sym (length-tabulate mark size 0))
+        (λ j m. entry same j (subst (λ (s : ℕ). j < s) (k .long) m))
       where
-        entry : e ≡ edges → (j : ℕ) → j < 32 → getD marks j false ≡ getD (tabulate (isMarked keep n edges edge carried to) 32 0) j false
+        entry : e ≡ edges → (j : ℕ) → j < size → getD marks j false ≡ getD (tabulate (isMarked keep n edges edge carried to) size 0) j false
         entry same j m =
             k .each j m
             ∙ ap (λ (c : ℕ). isMarked keep n c edge carried to j) same
             ∙ ap (isMarked keep n edges edge carried to) (omega arith)
-            ∙ sym (getD-tabulate (isMarked keep n edges edge carried to) false 32 0 j m)
+            ∙ sym (getD-tabulate (isMarked keep n edges edge carried to) false size 0 j m)
 
     module _ (l : e < edges) where
       -- the next edge is carried: its target is marked
-      pub marked-hit : {at : ℕ} → at ≡ to (edge + e) → to (edge + e) < 32 → carried (edge + e) ≡ true → Marked (set marks at true) (e + 1)
+      pub marked-hit : {at : ℕ} → at ≡ to (edge + e) → to (edge + e) < size → carried (edge + e) ≡ true → Marked (set marks at true) (e + 1)
       marked-hit {at} is h c =
           record {
             passed = omega arith;
-            size = length-set marks at true ∙ k .size;
+            long = length-set marks at true ∙ k .long;
             each = λ j m.
-                set-mark marks at j true (omega (arith, is, h, k .size))
+                set-mark marks at j true (omega (arith, is, h, k .long))
                 ∙ ap (cond (eqb j at) true) (k .each j m)
                 ∙ mark-more (eqb j at) (keep && eqb j n) (any (λ x. carried x && eqb (to x) j) e edge)
                 ∙ ap (λ (b : Bool). (keep && eqb j n) || b) (next j);
@@ -159,7 +152,7 @@ module _ (keep : Bool) (n edges edge : ℕ) (carried : ℕ → Bool) (to : ℕ �
       marked-miss c =
           record {
             passed = omega arith;
-            size = k .size;
+            long = k .long;
             each = λ j m.
                 k .each j m
                 ∙ mark-same (keep && eqb j n) (any (λ x. carried x && eqb (to x) j) e edge)
@@ -168,6 +161,29 @@ module _ (keep : Bool) (n edges edge : ℕ) (carried : ℕ → Bool) (to : ℕ �
         where
           next : (j : ℕ) → (any (λ x. carried x && eqb (to x) j) e edge || false) ≡ any (λ x. carried x && eqb (to x) j) (e + 1) edge
           next j = rw (add-one, any-last (λ x. carried x && eqb (to x) j) e edge, c)
+
+-- no edge has passed: at most what is kept is marked
+module _ (size n edges edge : ℕ) (carried : ℕ → Bool) (to : ℕ → ℕ) where
+  pub marked-none : Marked size false n edges edge carried to (replicate size false) 0
+  unfolding any
+  marked-none =
+      record {
+        passed = omega arith;
+        long = length-replicate {A = Bool} size false;
+        each = λ j m. getD-replicate {A = Bool} size j false false m;
+      }
+
+  pub marked-kept : (keep : Bool) → n < size → Marked size keep n edges edge carried to (set (replicate size false) n keep) 0
+  unfolding any
+  marked-kept keep l =
+      record {
+        passed = omega arith;
+        long = length-set (replicate size false) n keep ∙ marked-none .long;
+        each = λ j m.
+            set-mark (replicate size false) n j keep (omega (arith, marked-none .long))
+            ∙ ap (cond (eqb j n) keep) (marked-none .each j m)
+            ∙ mark-first (eqb j n) keep;
+      }
 
 -- ---- the places chosen
 module _ (marks : List Bool) (nodes : List ℕ) where

@@ -24,12 +24,14 @@ use Rattle.judging.specs.Condition.{totalOf, conditionAt, Listed, nodeNu
 use Rattle.judging.specs.Holding.{conditionHolds}
 use Rattle.judging.specs.Testing.{nodesOf, transitionsOf, testOf, passesOf, TestFits}
 use Rattle.judging.specs.Verdict.{statesOf, stateAt, unnamedOf, namedOf, isTrue, judgedOf, testedOf}
+use Rattle.judging.specs.Acceptance.{heldStatesOf, LookedUp}
 use Rattle.judging.specs.declared.conditions.Condition.{Condition}
 use Rattle.judging.specs.declared.conditions.Condition.the-variants.{Start, Entry, Cover, Range, Step, Enabling}
 use Rattle.judging.specs.declared.testing.Test.{Test}
 use Rattle.judging.specs.declared.verdicts.Single.{Single}
 use Rattle.judging.proofs.Laws.Condition.{Parts, condition-listed, listed-parts, total-most}
 use Rattle.judging.proofs.Laws.Testing.{prepared, test-fits}
+use Rattle.judging.proofs.Laws.Acceptance.{held-each}
 use Rattle.judging.proofs.Laws.Verdict.{true-at, judged-broken, judged-whole}
 
 pub count-is : (file : List ℕ) (o : Outline) {low high : List ℤ} {states : ℕ} → low ≡ lowsOf file (o .vars) → high ≡ highsOf file (o .vars)
@@ -95,13 +97,28 @@ pub record Ready (file : List ℕ) (o : Outline) (low high : List ℤ) (states :
   pub transitions-are : transitions ≡ transitionsOf file o
   pub total-is : total ≡ totalOf file o
 
+pub looked-ready : {file : List ℕ} {o : Outline} {spans : List ℕ} {low high : List ℤ} {states : ℕ} {nodes transitions : List ℕ} {total : ℕ}
+    → LookedUp file o spans low high nodes transitions → states ≡ statesOf file o → total ≡ totalOf file o
+    → Ready file o low high states nodes transitions total
+unfolding statesOf
+looked-ready k s t =
+    record {
+      readable = k .readable;
+      low-is = k .low-is;
+      high-is = k .high-is;
+      states-are = rw (k .low-is, k .high-is) s;
+      nodes-are = k .nodes-are;
+      transitions-are = k .transitions-are;
+      total-is = t;
+    }
+
 -- ---- the loops
 module _ (file : List ℕ) (o : Outline) where
-  -- n states are passed, in each of which the condition holds; `state` is the next, as long as there is one
-  pub record Passed (c : Condition) (state : List ℤ) (n : ℕ) : Type 0 where
+  -- n states are passed, in each of which the test holds; `state` is the next, as long as there is one
+  pub record Passed (test : List ℤ → Bool) (state : List ℤ) (n : ℕ) : Type 0 where
     pub passed : n ≤ statesOf file o
     pub here : n < statesOf file o → state ≡ stateAt file o n
-    pub held : (k : ℕ) → k < n → conditionHolds file o c (stateAt file o k) ≡ true
+    pub held : (k : ℕ) → k < n → test (stateAt file o k) ≡ true
 
   -- so many conditions are passed, each of them true
   pub record Searched (number : ℕ) : Type 0 where
@@ -119,6 +136,41 @@ module _ (file : List ℕ) (o : Outline) where
   pub searched-begin : Searched 0
   searched-begin = record { passed = omega arith; held = λ k l. absurd (omega arith) }
 
+-- ---- one state after the other
+module _ (file : List ℕ) (o : Outline) {low high : List ℤ} {states : ℕ} (r : readOf file ≡ Reading.Readable o)
+    (low-is : low ≡ lowsOf file (o .vars)) (high-is : high ≡ highsOf file (o .vars)) (states-are : states ≡ statesOf file o) where
+  pub pass-begin : {test : List ℤ → Bool} → Passed file o test low 0
+  unfolding stateAt
+  pass-begin = record { passed = omega arith; here = λ l. low-is ∙ sym (first file o r); held = λ k l. absurd (omega arith) }
+
+  module _ {n : ℕ} (l : n < states) where
+    pub number-below : n < statesOf file o
+    number-below = rw (← states-are) l
+
+    pub at-within : State file (o .vars) (stateAt file o n)
+    unfolding statesOf stateAt
+    at-within = numbered file o r n number-below .0
+
+    module _ {test : List ℤ → Bool} {state : List ℤ} (p : Passed file o test state n) where
+      pub pass-within : State file (o .vars) state
+      pass-within = rw (p .here number-below) at-within
+
+      pub pass-idle : (o .vars ≤ 12) × Idle (o .vars) low high state
+      pass-idle = (variables-within file o r .1, rw (low-is, high-is) (states-idle file (o .vars) state pass-within))
+
+      pub pass-here : {b : Bool} → test state ≡ b → test (stateAt file o n) ≡ b
+      pass-here f = rw (p .here number-below) at f
+
+      pub pass-more : test state ≡ true → {after : List ℤ} → after ≡ advanceOf low high state → Passed file o test after (n + 1)
+      unfolding statesOf stateAt
+      pass-more f e =
+          let m = number-below in
+          record {
+            passed = omega arith;
+            here = λ k. e ∙ rw (low-is, high-is, p .here m) (next file o r n k);
+            held = below-more _ n (p .held) (pass-here f);
+          }
+
 module _ {file : List ℕ} {o : Outline} {low high : List ℤ} {states : ℕ} {nodes transitions : List ℕ} {total : ℕ}
     (h : Ready file o low high states nodes transitions total) where
   pub states-small : states ≤ 1048576
@@ -131,25 +183,27 @@ module _ {file : List ℕ} {o : Outline} {low high : List ℤ} {states : ℕ} {n
   states-all = count-is file o (h .low-is) (h .high-is) (h .states-are)
 
   -- ---- the state of a number
-  module _ {n : ℕ} (l : n < states) where
-    number-below : n < statesOf file o
-    number-below = rw (← states-all) l
-
-    at-within : State file (o .vars) (stateAt file o n)
-    unfolding statesOf stateAt
-    at-within = numbered file o (h .readable) n number-below .0
-
-    pub state-asks : Ranges low high × (n < countOf low high)
-    state-asks = (count-asks file o (h .readable) (h .low-is) (h .high-is) .0, rw (← h .states-are) l)
+  pub state-asks : {n : ℕ} → n < states → Ranges low high × (n < countOf low high)
+  state-asks l = (count-asks file o (h .readable) (h .low-is) (h .high-is) .0, rw (← h .states-are) l)
 
   state-is : (n : ℕ) {state : List ℤ} → state ≡ stateOf low high n → state ≡ stateAt file o n
   unfolding stateAt
   state-is n e = rw (← h .low-is, ← h .high-is) e
 
   -- ---- a condition, and its tests at the states
-  pub passed-begin : {c : Condition} → Passed file o c low 0
-  unfolding stateAt
-  passed-begin = record { passed = omega arith; here = λ l. h .low-is ∙ sym (first file o (h .readable)); held = λ k l. absurd (omega arith) }
+  abbrev pub holdsAt : ℕ → List ℤ → Bool
+  holdsAt number state = conditionHolds file o (conditionAt file o number) state
+
+  -- before the first state that breaks a condition, every condition holds
+  pub passed-begin : {number n : ℕ} → number < total → n < states → n ≡ heldStatesOf file o → {state : List ℤ} → state ≡ stateOf low high n
+      → Passed file o (holdsAt number) state n
+  passed-begin {number} {n} below l is e =
+      let m : n < statesOf file o = rw (← states-all) l in
+      record {
+        passed = omega arith;
+        here = λ j. state-is n e;
+        held = λ i j. held-each file o (h .readable) number i (rw (← h .total-is) below) (rw (← is) j);
+      }
 
   module _ {number : ℕ} (below : number < total) {c : Condition} (is : c ≡ conditionAt file o number) where
     listed : Listed file o c
@@ -165,51 +219,44 @@ module _ {file : List ℕ} {o : Outline} {low high : List ℤ} {states : ℕ} {n
       passes-asks : {state : List ℤ} → State file (o .vars) state → Within low high state × TestFits low high file test
       passes-asks s = rw (h .low-is, h .high-is, of) (s, test-fits file o (h .readable) c listed)
 
-      passes-is : (state : List ℤ) → passesOf low high file test state ≡ conditionHolds file o (conditionAt file o number) state
+      passes-is : (state : List ℤ) → passesOf low high file test state ≡ holdsAt number state
       passes-is state = rw (h .low-is, h .high-is, of, ← is) (prepared file o (h .readable) c listed state)
 
       -- one test
       module _ {n : ℕ} (l : n < states) {state : List ℤ} (e : state ≡ stateOf low high n) where
         pub single-asks : Within low high state × TestFits low high file test
-        single-asks = passes-asks (rw (state-is n e) (at-within l))
+        single-asks = passes-asks (rw (state-is n e) (at-within file o (h .readable) (h .low-is) (h .high-is) states-all l))
 
         pub single-answers : {b : Bool} → b ≡ passesOf low high file test state → testedOf file o number n ≡ cond b Single.Holds Single.Fails
         single-answers f =
-            tested-whole file o number n (rw (← h .total-is) below) (number-below l) (rw (state-is n e) at (f ∙ passes-is state))
+            tested-whole file o number n (rw (← h .total-is) below) (rw (← states-all) l) (rw (state-is n e) at (f ∙ passes-is state))
 
       -- one test after the other
-      module _ {state : List ℤ} {n : ℕ} (p : Passed file o (conditionAt file o number) state n) (l : n < states) where
+      module _ {state : List ℤ} {n : ℕ} (p : Passed file o (holdsAt number) state n) (l : n < states) where
         pub passed-asks : Within low high state × TestFits low high file test
-        passed-asks = passes-asks (rw (p .here (number-below l)) (at-within l))
+        passed-asks = passes-asks (pass-within file o (h .readable) (h .low-is) (h .high-is) states-all l p)
 
         pub advance-asks : (o .vars ≤ 12) × Idle (o .vars) low high state
-        advance-asks = (
-          variables-within file o (h .readable) .1,
-          rw (h .low-is, h .high-is) (states-idle file (o .vars) state (rw (h .low-is, h .high-is) at (passed-asks .0))),
-        )
-
-        holds-is : {b : Bool} → passesOf low high file test state ≡ b → conditionHolds file o (conditionAt file o number) (stateAt file o n) ≡ b
-        holds-is f = rw (p .here (number-below l)) at (sym (passes-is state) ∙ f)
+        advance-asks = pass-idle file o (h .readable) (h .low-is) (h .high-is) states-all l p
 
         pub passed-more : passesOf low high file test state ≡ true → {after : List ℤ} → after ≡ advanceOf low high state
-            → Passed file o (conditionAt file o number) after (n + 1)
-        unfolding statesOf stateAt
-        passed-more f e =
-            let m = number-below l in
-            record {
-              passed = omega arith;
-              here = λ k. e ∙ rw (h .low-is, h .high-is, p .here m) (next file o (h .readable) n k);
-              held = below-more _ n (p .held) (holds-is f);
-            }
+            → Passed file o (holdsAt number) after (n + 1)
+        passed-more f = pass-more file o (h .readable) (h .low-is) (h .high-is) states-all l p (sym (passes-is state) ∙ f)
 
         pub passed-broke : passesOf low high file test state ≡ false → Broke file o number state
         passed-broke f =
-            let m = number-below l in
-            record { at = n; below = m; is = p .here m; held = p .held; breaks = holds-is f }
+            let m : n < statesOf file o = rw (← states-all) l in
+            record {
+              at = n;
+              below = m;
+              is = p .here m;
+              held = p .held;
+              breaks = pass-here file o (h .readable) (h .low-is) (h .high-is) states-all l p (sym (passes-is state) ∙ f);
+            }
 
   -- ---- the conditions
   module _ {number : ℕ} (s : Searched file o number) where
-    pub searched-more : number < total → {state : List ℤ} {n : ℕ} → Passed file o (conditionAt file o number) state n → states ≤ n
+    pub searched-more : number < total → {state : List ℤ} {n : ℕ} → Passed file o (holdsAt number) state n → states ≤ n
         → Searched file o (number + 1)
     searched-more l p m =
         record {

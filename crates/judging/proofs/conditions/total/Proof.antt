@@ -17,13 +17,13 @@ sub-nodes : tie.Need-sub-nodes
 sub-nodes c = omega (arith, bounds (c .before .before) .from)
 
 add-result : tie.Need-add-result
-add-result c = omega (arith, bounds (c .before .before .before) .covers)
+add-result c = let b = bounds (c .before .before .before) in omega (arith, b .nodes, b .covers)
 
 mul-result : tie.Need-mul-result
 mul-result c = omega (arith, bounds (c .before .before .before .before) .product)
 
 add-result-2 : tie.Need-add-result-2
-add-result-2 c = omega (arith, bounds (c .before .before .before .before) .covers, bounds (c .before .before .before .before) .product)
+add-result-2 c = let b = bounds (c .before .before .before .before) in omega (arith, b .nodes, b .covers, b .product)
 
 returns : tie.Need-returns
 returns c = laid-total _ _ (c .before .before .before .before .before .before .pre) (c .before .before .before .before .layout .ensures)

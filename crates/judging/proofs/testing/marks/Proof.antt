@@ -8,13 +8,13 @@ use Rattle.parsing.specs.Record.{fieldC}
 use Rattle.reading.proofs.Laws.Readable.{nodes-within}
 use Rattle.judging.specs.Diagram.{carries}
 use Rattle.judging.specs.Testing.{marksOf}
-use Rattle.judging.proofs.Steps.Testing.{EdgeHere, edge-here, Marked, marked-begin, marked-end, marked-hit, marked-miss}
+use Rattle.judging.proofs.Steps.Testing.{EdgeHere, edge-here, Marked, marked-kept, marked-end, marked-hit, marked-miss}
 use Rattle.judging.proofs.testing.marks.Statement.{statement}
 use Rattle.judging.proofs.testing.marks.Tie as tie
 
 abbrev Inv-loop : tie.InvT-loop
 Inv-loop file outline node transition keep marks₀ e₀ marks e =
-    Marked keep node (outline .edges) (outline .edge) (carries file node transition) (fieldC file) marks e
+    Marked 32 keep node (outline .edges) (outline .edge) (carries file node transition) (fieldC file) marks e
 
 abbrev μ-loop : tie.MeasureT-loop
 μ-loop file outline node transition keep marks₀ e₀ marks e = outline .edges - e
@@ -30,7 +30,7 @@ array-write-marks : tie.Need-array-write-marks Inv-loop μ-loop
 array-write-marks c = omega (arith, few (c .before))
 
 loop-holds : tie.Need-loop-holds Inv-loop μ-loop
-loop-holds c = marked-begin _ _ _ _ _ _ (omega (arith, few (c .before)))
+loop-holds c = marked-kept _ _ _ _ _ _ _ (omega (arith, few (c .before)))
 
 add-at : tie.Need-add-at Inv-loop μ-loop
 add-at c = let h = here (c .before .before .before .before .before) _ (c .before .if1 .taken) in omega arith
@@ -66,13 +66,13 @@ loop-again c =
     let l = c .before .before .before .if1 .taken in
     let h = here (c .before .before .before .before .before .before .before) _ l in
     ⊎-elim
-    (λ w. rw (w .2) (marked-hit _ _ _ _ _ _ k l (w .1 .ensures .0) (h .target) (sym (c .before .carries .ensures) ∙ w .0 .taken)))
-    (λ w. rw (w .1) (marked-miss _ _ _ _ _ _ k l (sym (c .before .carries .ensures) ∙ w .0 .left)))
+    (λ w. rw (w .2) (marked-hit _ _ _ _ _ _ _ k l (w .1 .ensures .0) (h .target) (sym (c .before .carries .ensures) ∙ w .0 .taken)))
+    (λ w. rw (w .1) (marked-miss _ _ _ _ _ _ _ k l (sym (c .before .carries .ensures) ∙ w .0 .left)))
     (c .if2 .came)
 
 returns : tie.Need-returns Inv-loop μ-loop
 unfolding marksOf
-returns c = marked-end _ _ _ _ _ _ (c .before .before .loop .inv) (omega arith)
+returns c = marked-end _ _ _ _ _ _ _ (c .before .before .loop .inv) (omega arith)
 
 pub marks-spec : {M : Type 1} → statement M
 marks-spec =

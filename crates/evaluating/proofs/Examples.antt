@@ -1,11 +1,11 @@
--- The definitions, computed on small examples: for numbers, truths, ranges, states and transitions each a table of questions and answers, and one
--- theorem, that the definition gives the answer at each of its rows. Assumes nothing.
+-- The definitions, computed on small examples: for numbers, truths, lengths, ranges, states and transitions each a table of questions and answers,
+-- and one theorem, that the definition gives the answer at each of its rows. Assumes nothing.
 use mathlib.Core.Path.{_≡_, refl}
 use mathlib.Core.Bool.{Bool, true, false}
 use mathlib.Core.List.{List, [], _∷_, _++_, map, flatten, List·Memᴰ}
-use Prim.Native.Nat.{ℕ, zero, suc, _*_}
+use Prim.Native.Nat.{ℕ, zero, suc, _+_, _*_, _/_}
 use lib.IntN.{ℤ, pos, negℤ}
-use lib.ListN.{take, drop, replicate}
+use lib.ListN.{length, take, drop, replicate}
 use Rattle.integers.specs.Bytes
 use Rattle.integers.specs.Radix
 use Rattle.integers.specs.Tests
@@ -252,6 +252,29 @@ unfolding flatten Bytes.signed16 Tests.eqZ Kind.within Kind.formOf Kind.signatur
     Expression.first Expression.second Expression.connectOf Expression.compareOf
     Expression.numberBy Expression.truthBy Expression.truth Expression.holdsOf
 assertions-hold = answers holding assertions refl
+
+-- ---- lengths
+-- a file; how many records each of its expressions has, by the record that it begins at, and the first entry beyond
+abbrev lengths : List (List ℕ × List ℕ)
+lengths =
+    ([], 0 ∷ []) ∷
+    -- no operand, one, two
+    (variable 0, 1 ∷ 0 ∷ []) ∷
+    (not (not yes), 3 ∷ 2 ∷ 1 ∷ 0 ∷ []) ∷
+    (sum (variable 0) (constant 1), 3 ∷ 1 ∷ 1 ∷ 0 ∷ []) ∷
+    -- where the second operand begins
+    (or (and no yes) yes, 5 ∷ 3 ∷ 1 ∷ 1 ∷ 1 ∷ 0 ∷ []) ∷
+    (and no (or yes yes), 5 ∷ 1 ∷ 3 ∷ 1 ∷ 1 ∷ 0 ∷ []) ∷
+    -- A's start, guard, assigned value, q and node have three records each
+    (A, 1 ∷ 1 ∷ 3 ∷ 1 ∷ 1 ∷ 1 ∷ 3 ∷ 1 ∷ 1 ∷ 1 ∷ 3 ∷ 1 ∷ 1 ∷ 1 ∷ 3 ∷ 1 ∷ 1 ∷ 1 ∷ 3 ∷ 1 ∷ 1 ∷ 0 ∷ []) ∷
+    []
+
+abbrev lengthsOf : List ℕ → List ℕ
+lengthsOf file = take (length file / 8 + 1) (Expression.spansOf file)
+
+lengths-hold : Answers lengthsOf lengths
+unfolding flatten Kind.within Kind.formOf Kind.signatureOf Expression.spanBy Expression.withSpan Expression.spansFrom Expression.spansOf
+lengths-hold = answers lengthsOf lengths refl
 
 -- ---- ranges
 -- a file and how many variables it has; the low ends, the high ends and how many states there are

@@ -1,10 +1,10 @@
 -- What the expression that a part of the file begins with is worth in a state: "It is handed on as the part of the file that begins at its first
 -- record." A state is the list of twelve values. `levels` is how many nesting levels are left, 16 at the outermost record.
 use mathlib.Core.Path.{_≡_}
-use mathlib.Core.List.{List}
+use mathlib.Core.List.{List, [], _∷_, _++_}
 use mathlib.Core.Bool.{Bool, false, not, cond, _&&_, _||_, Bool·beq}
-use Prim.Native.Nat.{ℕ, zero, suc, _+_, _*_, _≤_, _<_}
-use lib.ListN.{length, getD, drop}
+use Prim.Native.Nat.{ℕ, zero, suc, _+_, _-_, _*_, _/_, _≤_, _<_}
+use lib.ListN.{length, getD, drop, replicate}
 use lib.Dec.{eqb}
 use lib.IntN.{ℤ, pos}
 use lib.Signed.{ltZ, leZ}
@@ -102,6 +102,26 @@ Fits (suc levels) want part state =
     × OperandsFit (λ p. Fits levels (signatureAt part 0 .over) p state) levels part (signatureAt part 0 .operands)
 
 -- ---- a table of 4096 entries: how many records each expression of a part has, by the record that it begins at
+-- the entry of a record with so many operands, by the entries behind it: the first operand begins behind the record, the second behind the first
+unfoldable pub spanBy : ℕ → List ℕ → ℕ
+spanBy zero rest = 1
+spanBy (suc zero) rest = 1 + getD rest 0 0
+spanBy (suc (suc n)) rest = 1 + getD rest 0 0 + getD rest (getD rest 0 0) 0
+
+-- these entries with that one before them
+unfoldable pub withSpan : ℕ → List ℕ → List ℕ
+withSpan operands rest = spanBy operands rest ∷ rest
+
+-- the entries of the n records from `at` on
+unfoldable pub spansFrom : List ℕ → ℕ → ℕ → List ℕ
+spansFrom file zero at = []
+spansFrom file (suc n) at = withSpan (signatureAt file at .operands) (spansFrom file n (at + 1))
+
+-- of all the file's records; zeros beyond
+unfoldable pub spansOf : List ℕ → List ℕ
+spansOf file = spansFrom file (length file / 8) 0 ++ replicate (4096 - length file / 8) 0
+
+-- what the evaluators ask of a table: it is right wherever an expression begins
 pub record Spans (part table : List ℕ) : Type 0 where
   pub enough : length part ≤ 32768
   pub right : (at levels want : ℕ) (state : List ℤ) → Fits levels want (partAt part at) state → getD table at 0 ≡ span levels (partAt part at)

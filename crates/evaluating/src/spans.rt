@@ -3,7 +3,7 @@ use parsing::kinds::signature_at;
 ghost use mathlib.Core.Path.{_≡_};
 ghost use Prim.Native.Nat.{_+_, _≤_};
 ghost use lib.ListN.{length, getD};
-ghost use Rattle.evaluating.specs.Expression.{Spans};
+ghost use Rattle.evaluating.specs.Expression.{spansOf};
 
 // The record behind the operand that begins at `at`, by its entry in the table; `at` itself where the table ends before it.
 fn end_of(spans: &[u16], at: usize) -> usize
@@ -17,11 +17,11 @@ fn end_of(spans: &[u16], at: usize) -> usize
     }
 }
 
-// The table of a file's expressions, by the record that each begins at. From the last record back, an expression has one record and then those of
-// its operands, one behind the other. Where no expression begins, the entry is of no use.
+// The table of a file's expressions, by the record that each begins at, and zeros beyond. From the last record back, an expression has one record
+// and then those of its operands, one behind the other. Where no expression begins, the entry is of no use.
 pub fn spans_of(file: &[u8]) -> [u16; 4096]
     requires { ⌜ length (now file) ≤ 32768 ⌝ }
-    ensures { λ r. ⌜ Spans (now (file .entry)) r ⌝ }
+    ensures { λ r. ⌜ r ≡ spansOf (now (file .entry)) ⌝ }
 {
     let mut spans = [0u16; 4096];
     let records = file.len() / 8;

@@ -15,9 +15,11 @@ use Rattle.parsing.specs.Walk.{inSequence}
 use Rattle.parsing.proofs.Laws.Section.{kind-here}
 use Rattle.reading.specs.declared.Reading.{Reading}
 use Rattle.reading.specs.Read.{readOf}
-use Rattle.reading.proofs.Laws.Readable.{variables-within, transitions-within, nodes-within, node, fits}
+use Rattle.reading.proofs.Laws.Readable.{small, variables-within, transitions-within, nodes-within, node, fits}
+use Rattle.evaluating.specs.Expression.{spansOf, Spans}
 use Rattle.evaluating.specs.State.{lowsOf, highsOf, Ranges, Within, State, Idle}
 use Rattle.evaluating.specs.Number.{countOf, stateOf, advanceOf}
+use Rattle.evaluating.proofs.Laws.Span.{spans-right}
 use Rattle.evaluating.proofs.Laws.State.{states-idle}
 use Rattle.evaluating.proofs.Laws.Readable.{ranges, states-within, numbered, first, next}
 use Rattle.judging.specs.Condition.{totalOf, conditionAt, Listed, nodeNumber, transitionNumber}
@@ -43,6 +45,9 @@ count-is file o l h e = rw (← l, ← h) e
 module _ (file : List ℕ) (o : Outline) (r : readOf file ≡ Reading.Readable o) where
   pub count-asks : {low high : List ℤ} → low ≡ lowsOf file (o .vars) → high ≡ highsOf file (o .vars) → Ranges low high × (countOf low high ≤ 1048576)
   count-asks l h = rw (l, h) (ranges file o r, states-within file o r .1)
+
+  pub spans-serve : {spans : List ℕ} → spans ≡ spansOf file → Spans file spans
+  spans-serve e = rw e (spans-right file (small file o r))
 
   pub nodes-ask : (o .nodes ≤ 32) × (o .node ≤ length file / 8)
   unfolding inSequence

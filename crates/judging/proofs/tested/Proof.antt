@@ -7,7 +7,7 @@ use Rattle.reading.proofs.Laws.Readable.{small, variables-within}
 use Rattle.judging.specs.Testing.{nodesOf, transitionsOf}
 use Rattle.judging.specs.Verdict.{testedOf}
 use Rattle.judging.specs.declared.verdicts.Single.{Single}
-use Rattle.judging.proofs.Steps.Verdict.{count-is, count-asks, nodes-ask, transitions-ask, Ready, test-asks, state-asks}
+use Rattle.judging.proofs.Steps.Verdict.{count-is, count-asks, spans-serve, nodes-ask, transitions-ask, Ready, test-asks, state-asks}
 use Rattle.judging.proofs.Steps.Verdict.{single-asks, single-answers, tested-eleven, tested-twelve}
 use borrow.Author.Needs.{needs}
 use Rattle.judging.proofs.tested.Statement.{statement}
@@ -95,7 +95,7 @@ passes-requires : tie.Need-passes-requires
 passes-requires c κs =
     let s = c .before .before in
     let d = s .before .before .before in (
-      c .before .spans-of .ensures,
+      spans-serve _ _ (start d .pre) (c .before .spans-of .ensures),
       single-asks (ready d) (d .before .before .before .before .before .before .if1 .left) (s .before .before .condition-at .ensures)
           (s .before .test-of .ensures) (d .before .before .if2 .left) (s .state-of .ensures),
     )

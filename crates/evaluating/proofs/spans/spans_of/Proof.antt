@@ -1,11 +1,11 @@
--- `evaluating::spans::spans_of` meets its contract: from `at` on the table is right. Assumes nothing.
+-- `evaluating::spans::spans_of` meets its contract: from `at` on the table is the definition's. Assumes nothing.
 use borrow.Author.Needs.{needs}
 use mathlib.Core.Path.{_≡_, _∙_}
 use mathlib.Core.Logic.{⊎-map}
 use Prim.Native.Nat.{_+_, _-_, _/_, _≤_}
 use native.Mathlib.Omega.{arith}
 use lib.ListN.{length}
-use Rattle.evaluating.proofs.Steps.Span.{Filled, Passed, mid-within, end-within, end-entry, filled-begin, filled-more, filled-end}
+use Rattle.evaluating.proofs.Steps.Span.{Filled, Passed, mid-within, end-within, filled-begin, filled-more, filled-end}
 use Rattle.evaluating.proofs.spans.spans_of.Statement.{statement}
 use Rattle.evaluating.proofs.spans.spans_of.Tie as tie
 
@@ -33,7 +33,7 @@ slice-aggregate-end-of c = search needs
 end-of-requires : tie.Need-end-of-requires Inv-loop μ-loop
 end-of-requires c κs = search needs
 
--- the table is right behind the record, and `end` passes its operands
+-- the table is filled behind the record, and `end` passes its operands
 filled : (c : tie.In-loop Inv-loop μ-loop)
     → Filled (c .before .before .before .args .file .now) (c .before .loop .spans) (c .before .loop .at - 1 + 1)
 filled c = let e : c .before .loop .at - 1 + 1 ≡ c .before .loop .at = omega arith in rw e (c .before .loop .inv)
@@ -55,9 +55,9 @@ end-of-requires-2 : tie.Need-end-of-requires-2 Inv-loop μ-loop
 end-of-requires-2 c κs = omega (arith, mid-within _ (filled (c .before .before .before .before)) (first-passed (c .before .before)))
 
 ends : (c : tie.Joined2 Inv-loop μ-loop)
-    → (c .before .before .before .before .loop .at - 1 + 1 ≤ c .if2 .end)
+    → (c .before .before .before .before .loop .at - 1 ≤ c .if2 .end)
     × (c .if2 .end ≤ length (c .before .before .before .before .before .before .args .file .now) / 8)
-ends c = end-within _ (filled (c .before .before .before)) (first-passed (c .before)) (second-passed c)
+ends c = end-within _ (filled (c .before .before .before)) (c .before .before .signature-at .ensures) (first-passed (c .before)) (second-passed c)
 
 sub-spans : tie.Need-sub-spans Inv-loop μ-loop
 sub-spans c = omega (arith, ends (c .before))
@@ -76,12 +76,11 @@ loop-less c = search needs
 
 loop-again : tie.Need-loop-again Inv-loop μ-loop
 loop-again c =
-    let f = filled (c .before .before .before .before) in
-    filled-more _ _ _ _ (search needs) f
-    (end-entry _ f (c .before .before .before .signature-at .ensures) (first-passed (c .before .before)) (second-passed (c .before)))
+    filled-more _ (filled (c .before .before .before .before)) (c .before .before .before .signature-at .ensures)
+    (first-passed (c .before .before)) (second-passed (c .before)) (search needs)
 
 returns : tie.Need-returns Inv-loop μ-loop
-returns c = filled-end _ _ _ (c .before .before .before .pre) (c .loop-test .left) (c .before .loop .inv)
+returns c = filled-end _ (c .loop-test .left) (c .before .loop .inv)
 
 pub spans-of-spec : {M : Type 1} → statement M
 spans-of-spec =

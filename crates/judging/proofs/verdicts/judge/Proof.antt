@@ -10,7 +10,7 @@ use Rattle.judging.specs.Verdict.{statesOf}
 use Rattle.judging.proofs.Laws.Acceptance.{held-most, held-true}
 use Rattle.judging.proofs.Laws.Condition.{total-most}
 use Rattle.judging.proofs.Laws.Verdict.{judged-whole}
-use Rattle.judging.proofs.Steps.Verdict.{count-is, count-asks, nodes-ask, transitions-ask}
+use Rattle.judging.proofs.Steps.Verdict.{count-is, count-asks, spans-serve, nodes-ask, transitions-ask}
 use Rattle.judging.proofs.verdicts.judge.Statement.{statement}
 use Rattle.judging.proofs.verdicts.judge.Tie as tie
 
@@ -25,7 +25,7 @@ unfolding nodesOf transitionsOf
 known c =
     record {
       readable = start c .pre;
-      spans-are = c .before .before .before .before .before .before .spans-of .ensures;
+      spans-are = spans-serve _ _ (start c .pre) (c .before .before .before .before .before .before .spans-of .ensures);
       low-is = c .before .before .before .before .before .lows .ensures;
       high-is = c .before .before .before .before .highs .ensures;
       nodes-are = c .before .before .node-places .ensures;

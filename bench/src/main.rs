@@ -1,10 +1,12 @@
-//! Checks accepted files, so that every condition is tested at every state, by the proved library
-//! and by the independent implementation, and tells how long a test takes.
+//! Checks accepted files, so that every condition is tested at every state, and files whose last
+//! condition is broken, by the proved library and by the independent implementation, and tells how
+//! long a test takes.
 
 mod draft;
 mod files;
 
-use files::{chain, invariance};
+use files::{broken, chain, invariance};
+use independent::Variable;
 use std::process::ExitCode;
 use std::time::{Duration, Instant};
 
@@ -49,6 +51,14 @@ fn main() -> ExitCode {
     for transitions in [1, 2, 4, 8, 16] {
         row(timed(&invariance(16, 4, transitions, 15), REPETITIONS));
     }
+    println!("\nrefused files: the last condition is broken, at the last state and then at state 0 (third row: expressions of 5 records)");
+    heading();
+    let last = (1 << BITS) - 1;
+    let refused = [(1, 1, 15, last), (1, 1, 15, 0), (1, 1, 5, 0), (4, 4, 15, 0)];
+    for (nodes, transitions, size, state) in refused {
+        let file = broken(BITS, nodes, transitions, size, state);
+        row(timed_refused(&file, state, REPETITIONS));
+    }
     if !quick {
         println!("\nexamples/pages-largest.vd, once");
         heading();
@@ -63,6 +73,7 @@ fn main() -> ExitCode {
 struct Row {
     conditions: usize,
     states: usize,
+    tests: usize,
     /// Nanoseconds for a test.
     proved: f64,
     independent: f64,
@@ -81,38 +92,69 @@ impl Row {
         let Row {
             conditions,
             states,
+            tests,
             proved,
             independent,
         } = self;
-        let tests = conditions * states;
         let (ratio, per_second) = (self.ratio(), 1e9 / proved);
         println!("{conditions:10}  {states:7}  {tests:10}  {proved:14.1}  {independent:19.1}  {ratio:5.2}  {per_second:14.0}");
     }
 }
 
-fn proved(file: &[u8]) -> Option<usize> {
+/// A verdict's number, condition or how many there are, and values of the breaking state.
+type Verdict = (u8, usize, [i16; 12]);
+
+fn proved(file: &[u8]) -> Verdict {
     let verdict = vd::check(file);
-    (verdict.number == 0).then_some(verdict.at as usize)
+    (verdict.number, verdict.at as usize, verdict.values)
 }
 
-fn independent(file: &[u8]) -> Option<usize> {
+fn independent(file: &[u8]) -> Verdict {
     let verdict = independent::check(file, &mut [0; 32]);
-    (verdict.number == 0).then_some(verdict.at as usize)
+    (verdict.number, verdict.at as usize, verdict.values)
+}
+
+/// The state of that number: the last variable is fastest.
+fn numbered(ranges: &[Variable], mut number: usize) -> [i16; 12] {
+    let mut values = [0; 12];
+    for (value, range) in values.iter_mut().zip(ranges).rev() {
+        *value = range.low + (number % range.size()) as i16;
+        number /= range.size();
+    }
+    values
 }
 
 /// Checks a file, which both must accept with all its conditions.
 fn timed(file: &[u8], repetitions: usize) -> Row {
+    compared(file, None, repetitions)
+}
+
+/// Checks a file whose last condition, a step, both must find broken at the state of that number.
+fn timed_refused(file: &[u8], state: usize, repetitions: usize) -> Row {
+    compared(file, Some(state), repetitions)
+}
+
+/// Checks a file, which both must accept or find broken at the state. The tests are the definition's,
+/// condition by condition and state by state up to the first that fails, in whatever order they are
+/// made.
+fn compared(file: &[u8], broken: Option<usize>, repetitions: usize) -> Row {
     let read = independent::read(file).expect("a readable file");
     let (conditions, states) = (read.conditions().len(), read.states());
-    let tests = conditions * states;
+    let (verdict, tests) = match broken {
+        None => ((0, conditions, [0; 12]), conditions * states),
+        Some(state) => {
+            let last = conditions - 1;
+            let values = numbered(&read.variables, state);
+            ((17, last, values), last * states + state + 1)
+        }
+    };
     let times = (TESTS / tests).max(1);
     let mut least = [Duration::MAX; 2];
     for _ in 0..repetitions {
         for (least, check) in least.iter_mut().zip([proved, independent]) {
             let begin = Instant::now();
             for _ in 0..times {
-                let accepted = check(file);
-                assert_eq!(accepted, Some(conditions), "not accepted");
+                assert_eq!(check(file), verdict, "another verdict");
             }
             *least = begin.elapsed().min(*least);
         }
@@ -121,6 +163,7 @@ fn timed(file: &[u8], repetitions: usize) -> Row {
     Row {
         conditions,
         states,
+        tests,
         proved,
         independent,
     }

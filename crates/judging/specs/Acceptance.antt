@@ -1,5 +1,5 @@
--- The states where every condition holds, in the order in which the code finds them: state by state, what several conditions speak of worked out once
--- for all of them. That a file is accepted where these are all states is a law (proofs/Laws/Acceptance.antt).
+-- The conditions that are true, found in one pass over the states: state by state, what several conditions speak of worked out once for all of them. The
+-- search for the first broken condition begins behind these (proofs/Laws/Acceptance.antt).
 use mathlib.Core.Path.{_≡_}
 use mathlib.Core.Bool.{Bool, true, false, not, cond, _&&_, _||_}
 use mathlib.Core.List.{List, [], _∷_}
@@ -20,14 +20,16 @@ use Rattle.evaluating.specs.Expression.{partAt, holdsOf, Fits, Spans}
 use Rattle.evaluating.specs.State.{lowsOf, highsOf, Within}
 use Rattle.evaluating.specs.Transition.{stepOf, TransitionFits}
 use Rattle.judging.specs.Diagram.{claimedAt, qAt}
-use Rattle.judging.specs.Condition.{conditionsOf}
+use Rattle.judging.specs.Condition.{each, movesOf, totalOf, conditionAt}
 use Rattle.judging.specs.Holding.{implies, conditionHolds}
-use Rattle.judging.specs.Layout.{layoutOf}
+use Rattle.judging.specs.Layout.{openingOf, layoutOf}
 use Rattle.judging.specs.Testing.{nodesOf, transitionsOf}
 use Rattle.judging.specs.Search.{first}
-use Rattle.judging.specs.Verdict.{statesOf, stateAt}
+use Rattle.judging.specs.Verdict.{statesOf, stateAt, isTrue}
+use Rattle.judging.specs.declared.acceptance.Found.{Found}
 use Rattle.judging.specs.declared.conditions.Blocks.{Blocks}
 use Rattle.judging.specs.declared.conditions.Condition.{Condition}
+use Rattle.judging.specs.declared.conditions.Condition.the-variants.{Cover}
 
 -- the n numbers from `at` on pass the test
 unfoldable pub every : (ℕ → Bool) → ℕ → ℕ → Bool
@@ -39,9 +41,37 @@ unfoldable pub allHold : List ℕ → Outline → List Condition → List ℤ �
 allHold file o [] state = true
 allHold file o (c ∷ list) state = conditionHolds file o c state && allHold file o list state
 
--- how many states, from the first on, every condition of a file holds at
+-- ---- the conditions in blocks: the first with the covers, then those of each node that has range and step conditions
+unfoldable pub blockOf : List ℕ → Outline → ℕ → List Condition
+blockOf file o zero = openingOf file o ∷ each (λ n. Cover n ∷ []) (layoutOf file o .covers) 0
+blockOf file o (suc i) = each (movesOf file o (layoutOf file o .from + i)) (o .transitions) 0
+
+-- block i holds at a state
+unfoldable pub blockHolds : List ℕ → Outline → ℕ → List ℤ → Bool
+blockHolds file o i state = allHold file o (blockOf file o i) state
+
+-- how many of the first `most` blocks hold at a state, up to the first that does not
+unfoldable pub heldBlocksOf : List ℕ → Outline → ℕ → List ℤ → ℕ
+heldBlocksOf file o most state = first (λ i. blockHolds file o i state) most
+
+-- how many blocks are true, up to the first that is not: they hold at every state
+unfoldable pub trueBlocksOf : List ℕ → Outline → ℕ
+trueBlocksOf file o =
+    first (λ i. every (λ n. blockHolds file o i (stateAt file o n)) (statesOf file o) 0) (1 + (o .nodes - layoutOf file o .from))
+
+-- how many states the first untrue block holds at, up to the first that breaks it; none where every block is true
 unfoldable pub heldStatesOf : List ℕ → Outline → ℕ
-heldStatesOf file o = first (λ n. allHold file o (conditionsOf file o) (stateAt file o n)) (statesOf file o)
+heldStatesOf file o =
+    cond (ltb (trueBlocksOf file o) (1 + (o .nodes - layoutOf file o .from)))
+    (first (λ n. blockHolds file o (trueBlocksOf file o) (stateAt file o n)) (statesOf file o)) 0
+
+unfoldable pub foundOf : List ℕ → Outline → Found
+foundOf file o = record { blocks = trueBlocksOf file o; states = heldStatesOf file o }
+
+-- how many conditions the first blocks have
+unfoldable pub conditionsIn : Blocks → ℕ → ℕ
+conditionsIn blocks zero = 0
+conditionsIn blocks (suc i) = 1 + blocks .covers + i * blocks .size
 
 -- ---- tables
 -- the pair of an edge: its node and its transition, each below 32, in one number
@@ -87,17 +117,17 @@ pairHolds file nodes marks node pair double count stepped =
     ((not double && holdsOf file (getD nodes node 0 + 1) (stepped .next)) || reachedOf file nodes marks pair count (stepped .next))
     (not (stepped .guard || double))
 
--- the same of each node from `from` up that holds, and then of each transition
-unfoldable pub nodesHold : List ℕ → List ℕ → List Bool → List Bool → List Bool → ℕ → ℕ → ℕ → Stepped → Bool
-nodesHold file nodes marks doubles held from count t stepped =
+-- the same of each node that holds, from `from` up to `end`, and then of each transition
+unfoldable pub nodesHold : List ℕ → List ℕ → List Bool → List Bool → List Bool → ℕ → ℕ → ℕ → ℕ → Stepped → Bool
+nodesHold file nodes marks doubles held from end count t stepped =
     every
     (λ n. implies (getD held n false) (pairHolds file nodes marks n (32 * n + t) (getD doubles (32 * n + t) false) count stepped))
-    (count - from) from
+    (end - from) from
 
-unfoldable pub transitionsHold : List ℤ → List ℤ → List ℕ → List ℕ → List ℕ → List Bool → List Bool → List Bool → ℕ → ℕ → ℕ → List ℤ → Bool
-transitionsHold lows highs file nodes transitions marks doubles held from count number state =
+unfoldable pub transitionsHold : List ℤ → List ℤ → List ℕ → List ℕ → List ℕ → List Bool → List Bool → List Bool → ℕ → ℕ → ℕ → ℕ → List ℤ → Bool
+transitionsHold lows highs file nodes transitions marks doubles held from end count number state =
     every
-    (λ t. nodesHold file nodes marks doubles held from count t (stepOf lows highs file (getD transitions t 0) state))
+    (λ t. nodesHold file nodes marks doubles held from end count t (stepOf lows highs file (getD transitions t 0) state))
     number 0
 
 -- ---- what the code asks: the truths at the first `count` places can be evaluated, and so can the assertions of as many nodes
@@ -132,3 +162,14 @@ pub record Tables (file : List ℕ) (o : Outline) (blocks : Blocks) (premise : �
   pub places-are : places ≡ qPlacesOf file o (blocks .covers)
   pub marks-are : marks ≡ edgeMarksOf file o
   pub doubles-are : doubles ≡ doubleMarksOf file o
+
+-- so many conditions, from the first on, are true
+pub record Searched (file : List ℕ) (o : Outline) (number : ℕ) : Type 0 where
+  pub passed : number ≤ totalOf file o
+  pub held : (k : ℕ) → k < number → isTrue file o (conditionAt file o k) ≡ true
+
+-- and those before `end` hold in the first `from` states
+pub record Begun (file : List ℕ) (o : Outline) (sure end from : ℕ) : Type 0 where
+  pub searched : Searched file o sure
+  pub below : from < statesOf file o
+  pub each : (k n : ℕ) → k < end → k < totalOf file o → n < from → conditionHolds file o (conditionAt file o k) (stateAt file o n) ≡ true

@@ -1,7 +1,6 @@
-// The states where every condition holds, in one pass over the states: what several conditions speak of at a state, a node's assertion or a transition's
-// step, is worked out once for all of them.
+// The conditions that are true, in one pass over the states: what several conditions speak of at a state, a node's assertion or a transition's step, is
+// worked out once for all of them.
 use crate::conditions::Blocks;
-use crate::conditions::layout;
 use crate::testing::claimed_at;
 use crate::testing::q_at;
 use evaluating::expressions::holds;
@@ -12,19 +11,25 @@ use parsing::outline::Outline;
 use parsing::records::byte_at;
 use parsing::records::word_at;
 ghost use mathlib.Core.Path.{_≡_};
-ghost use Prim.Native.Nat.{_+_, _*_, _≤_, _<_};
+ghost use Prim.Native.Nat.{_+_, _-_, _*_, _≤_, _<_};
 ghost use lib.ListN.{length, getD};
 ghost use Rattle.reading.specs.declared.Reading.{Reading};
 ghost use Rattle.reading.specs.Read.{readOf};
 ghost use Rattle.parsing.specs.Kind.{truth as truthSort};
 ghost use Rattle.evaluating.specs.Expression.{partAt, Fits, Spans};
 ghost use Rattle.evaluating.specs.State.{Within, State};
-ghost use Rattle.judging.specs.Condition.{conditionsOf};
 ghost use Rattle.judging.specs.Layout.{layoutOf};
 ghost use Rattle.judging.specs.Verdict.{statesOf};
 ghost use Rattle.judging.specs.Acceptance.{pairAt, edgeMarksOf, doubleMarksOf, qPlacesOf, openingAt, heldNodesOf, openingHolds, coversHold};
-ghost use Rattle.judging.specs.Acceptance.{reachedOf, pairHolds, nodesHold, transitionsHold, allHold, heldStatesOf};
+ghost use Rattle.judging.specs.Acceptance.{reachedOf, pairHolds, nodesHold, transitionsHold, every, blockHolds, heldBlocksOf, foundOf, conditionsIn};
 ghost use Rattle.judging.specs.Acceptance.{NodesFit, PlacesFit, PassFits, LookedUp, Tables};
+
+// What the pass finds: how many blocks of conditions are true, up to the first that is not, and how many states that one holds at, up to the first that
+// breaks it.
+pub struct Found {
+    pub blocks: usize,
+    pub states: usize,
+}
 
 // An edge's node and transition in one number, below 1,024 in a readable file.
 fn pair_at(file: &[u8], at: usize) -> usize
@@ -230,7 +235,7 @@ fn pair_holds(
     reached(file, spans, nodes, marks, pair, count, next)
 }
 
-// The same of every node from `from` up that holds.
+// The same of every node from `from` up to `end` that holds.
 fn nodes_hold(
     file: &[u8],
     spans: &[u16; 4096],
@@ -239,19 +244,20 @@ fn nodes_hold(
     doubles: &[bool; 1024],
     held: &[bool; 32],
     from: usize,
+    end: usize,
     count: usize,
     transition: usize,
     stepped: Stepped,
 ) -> bool
     requires spans { ⌜ Spans (now file) (now spans) ⌝ }
     requires fits { ⌜ NodesFit (now file) (now nodes) count (stepped .next) ⌝ }
-    requires from { ⌜ from ≤ count ⌝ }
+    requires nodes { ⌜ (from ≤ end) × (end ≤ count) ⌝ }
     requires transition { ⌜ transition < 32 ⌝ }
-    ensures { λ r. ⌜ r ≡ nodesHold (now (file .entry)) (now (nodes .entry)) (now (marks .entry)) (now (doubles .entry)) (now (held .entry)) from count transition
+    ensures { λ r. ⌜ r ≡ nodesHold (now (file .entry)) (now (nodes .entry)) (now (marks .entry)) (now (doubles .entry)) (now (held .entry)) from end count transition
         stepped ⌝ }
 {
     let mut n = from;
-    while n < count {
+    while n < end {
         if held[n] {
             let pair = 32 * n + transition;
             let double = doubles[pair];
@@ -276,6 +282,7 @@ fn transitions_hold(
     doubles: &[bool; 1024],
     held: &[bool; 32],
     from: usize,
+    end: usize,
     count: usize,
     number: usize,
     state: [i16; 12],
@@ -283,9 +290,9 @@ fn transitions_hold(
     requires spans { ⌜ Spans (now file) (now spans) ⌝ }
     requires within { ⌜ Within low high state ⌝ }
     requires fits { ⌜ PassFits low high (now file) (now nodes) count (now transitions) number ⌝ }
-    requires from { ⌜ from ≤ count ⌝ }
+    requires nodes { ⌜ (from ≤ end) × (end ≤ count) ⌝ }
     ensures { λ r. ⌜ r ≡ transitionsHold low high (now (file .entry)) (now (nodes .entry)) (now (transitions .entry)) (now (marks .entry)) (now (doubles .entry))
-        (now (held .entry)) from count number state ⌝ }
+        (now (held .entry)) from end count number state ⌝ }
 {
     let mut t: usize = 0;
     while t < number {
@@ -299,6 +306,7 @@ fn transitions_hold(
             doubles,
             held,
             from,
+            end,
             count,
             t,
             stepped,
@@ -310,7 +318,7 @@ fn transitions_hold(
     true
 }
 
-// Whether every condition of a readable file holds at a state.
+// Whether the first block of conditions, and those of the nodes up to `end`, hold at a state.
 fn all_hold(
     file: &[u8],
     outline: Outline,
@@ -324,12 +332,14 @@ fn all_hold(
     places: &[usize; 32],
     marks: &[bool; 32768],
     doubles: &[bool; 1024],
+    end: usize,
     state: [i16; 12],
 ) -> bool
     requires known { ⌜ LookedUp (now file) outline (now spans) low high (now nodes) (now transitions) ⌝ }
     requires tables { ⌜ Tables (now file) outline blocks premise (now places) (now marks) (now doubles) ⌝ }
     requires state { ⌜ State (now file) (outline .vars) state ⌝ }
-    ensures { λ r. ⌜ r ≡ allHold (now (file .entry)) outline (conditionsOf (now (file .entry)) outline) state ⌝ }
+    requires nodes { ⌜ (blocks .from ≤ end) × (end ≤ outline .nodes) ⌝ }
+    ensures { λ r. ⌜ r ≡ every (λ i. blockHolds (now (file .entry)) outline i state) (1 + (end - blocks .from)) 0 ⌝ }
 {
     let count = outline.nodes;
     let held = held_nodes(file, spans, nodes, count, state);
@@ -338,6 +348,9 @@ fn all_hold(
     }
     if !covers_hold(file, spans, places, &held, blocks.covers, state) {
         return false;
+    }
+    if end == blocks.from {
+        return true;
     }
     transitions_hold(
         file,
@@ -350,14 +363,64 @@ fn all_hold(
         doubles,
         &held,
         blocks.from,
+        end,
         count,
         outline.transitions,
         state,
     )
 }
 
-// How many states, from the first on, every condition of a readable file holds at: all of them, or those before the first that breaks one.
-pub(crate) fn held_states(
+// How many of the first `most` blocks hold at a state, up to the first that does not. As a rule all of them do, so the most are tried first.
+fn held_blocks(
+    file: &[u8],
+    outline: Outline,
+    spans: &[u16; 4096],
+    low: [i16; 12],
+    high: [i16; 12],
+    nodes: &[usize; 32],
+    transitions: &[usize; 32],
+    blocks: Blocks,
+    premise: usize,
+    places: &[usize; 32],
+    marks: &[bool; 32768],
+    doubles: &[bool; 1024],
+    most: usize,
+    state: [i16; 12],
+) -> usize
+    requires known { ⌜ LookedUp (now file) outline (now spans) low high (now nodes) (now transitions) ⌝ }
+    requires tables { ⌜ Tables (now file) outline blocks premise (now places) (now marks) (now doubles) ⌝ }
+    requires state { ⌜ State (now file) (outline .vars) state ⌝ }
+    requires most { ⌜ most ≤ 1 + (outline .nodes - blocks .from) ⌝ }
+    ensures { λ r. ⌜ r ≡ heldBlocksOf (now (file .entry)) outline most state ⌝ }
+{
+    let mut held = most;
+    while 0 < held {
+        let end = blocks.from + held - 1;
+        if all_hold(
+            file,
+            outline,
+            spans,
+            low,
+            high,
+            nodes,
+            transitions,
+            blocks,
+            premise,
+            places,
+            marks,
+            doubles,
+            end,
+            state,
+        ) {
+            return held;
+        }
+        held -= 1;
+    }
+    0
+}
+
+// The true blocks of a readable file's conditions.
+pub(crate) fn find(
     file: &[u8],
     outline: Outline,
     spans: &[u16; 4096],
@@ -366,22 +429,25 @@ pub(crate) fn held_states(
     states: usize,
     nodes: &[usize; 32],
     transitions: &[usize; 32],
-) -> usize
+    blocks: Blocks,
+) -> Found
     requires known { ⌜ LookedUp (now file) outline (now spans) low high (now nodes) (now transitions) ⌝ }
     requires states { ⌜ states ≡ statesOf (now file) outline ⌝ }
-    ensures { λ r. ⌜ r ≡ heldStatesOf (now (file .entry)) outline ⌝ }
+    requires blocks { ⌜ blocks ≡ layoutOf (now file) outline ⌝ }
+    ensures { λ r. ⌜ r ≡ foundOf (now (file .entry)) outline ⌝ }
 {
-    let blocks = layout(file, outline);
     let premise = opening_at(file, outline);
     let places = q_places(file, outline, blocks.covers);
     let marks = edge_marks(file, outline);
     let doubles = double_marks(file, outline);
+    let mut held = 1 + (outline.nodes - blocks.from);
+    let mut from: usize = 0;
     let mut state = low;
     let mut n: usize = 0;
     while n < states {
         // Worked out before the tests, which then needn't wait for it.
         let next = advance(low, high, outline.vars, state);
-        if !all_hold(
+        let kept = held_blocks(
             file,
             outline,
             spans,
@@ -394,12 +460,30 @@ pub(crate) fn held_states(
             &places,
             &marks,
             &doubles,
+            held,
             state,
-        ) {
-            return n;
+        );
+        if kept < held {
+            from = n;
         }
+        held = kept;
         state = next;
         n += 1;
     }
-    n
+    Found {
+        blocks: held,
+        states: from,
+    }
+}
+
+// How many conditions so many blocks have, from the first on.
+pub(crate) fn conditions_in(blocks: Blocks, held: usize) -> usize
+    requires { ⌜ (blocks .covers ≤ 32) × ((held - 1) * blocks .size ≤ 4096) ⌝ }
+    ensures { λ r. ⌜ r ≡ conditionsIn blocks held ⌝ }
+{
+    if held == 0 {
+        return 0;
+    }
+    let others = (held - 1) * blocks.size;
+    1 + blocks.covers + others
 }

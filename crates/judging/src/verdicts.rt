@@ -1,7 +1,9 @@
 // The verdict on a file: the lowest broken condition with the lowest state that breaks it; and what a single test answers.
-use crate::acceptance::held_states;
+use crate::acceptance::conditions_in;
+use crate::acceptance::find;
 use crate::conditions::Condition;
 use crate::conditions::condition_at;
+use crate::conditions::layout;
 use crate::conditions::total;
 use crate::report::Verdict;
 use crate::testing::concludes;
@@ -19,12 +21,12 @@ use parsing::sections::transition_places;
 use reading::Reading;
 use reading::read;
 ghost use mathlib.Core.Path.{_≡_};
-ghost use Prim.Native.Nat.{_≤_, _<_};
+ghost use Prim.Native.Nat.{_≤_};
 ghost use Rattle.reading.specs.declared.Reading.{Reading};
 ghost use Rattle.reading.specs.Read.{readOf};
 ghost use Rattle.judging.specs.Condition.{totalOf, nodeNumber, transitionNumber};
 ghost use Rattle.judging.specs.Verdict.{statesOf, unnamedOf, namedOf, judgedOf, verdictBy};
-ghost use Rattle.judging.specs.Acceptance.{heldStatesOf, LookedUp};
+ghost use Rattle.judging.specs.Acceptance.{LookedUp, Begun};
 
 // What a single test answers: the refusal that meets it, with its number and its place; or whether the condition holds at the state.
 pub enum Single {
@@ -98,7 +100,7 @@ fn named(condition: Condition, number: u32, state: [i16; 12]) -> Verdict
 }
 
 // The verdict on a readable file, by one condition after the other up to the first break. Each is prepared once, then tested at one state after the
-// other, those left out before which every condition holds.
+// other. The conditions before number `sure` are true, and those before `end` hold in the first `from` states: these tests are left out.
 fn first_break(
     file: &[u8],
     outline: Outline,
@@ -109,24 +111,29 @@ fn first_break(
     nodes: [usize; 32],
     transitions: [usize; 32],
     total: usize,
-    held: usize,
+    sure: usize,
+    end: usize,
+    from: usize,
 ) -> Verdict
     requires known { ⌜ LookedUp (now file) outline (now spans) low high nodes transitions ⌝ }
     requires states { ⌜ states ≡ statesOf (now file) outline ⌝ }
     requires total { ⌜ total ≡ totalOf (now file) outline ⌝ }
-    requires held { ⌜ held ≡ heldStatesOf (now file) outline ⌝ }
-    requires below { ⌜ held < states ⌝ }
+    requires begun { ⌜ Begun (now file) outline sure end from ⌝ }
     ensures { λ r. ⌜ r ≡ judgedOf (now (file .entry)) outline ⌝ }
 {
-    let start = state_of(low, high, held);
-    let mut number: usize = 0;
-    let mut state = start;
+    let start = state_of(low, high, from);
+    let mut number = sure;
+    let mut state = low;
     'conditions: while number < total {
         let condition = condition_at(file, outline, number);
         let test = test_of(file, outline, nodes, transitions, condition);
         let premise = test.premise;
-        state = start;
-        let mut n = held;
+        state = low;
+        let mut n: usize = 0;
+        if number < end {
+            state = start;
+            n = from;
+        }
         'states: while n < states {
             // Worked out before the test, which then needn't wait for it.
             let next = advance(low, high, outline.vars, state);
@@ -147,7 +154,8 @@ fn first_break(
     unnamed(0, total as u32)
 }
 
-// The verdict on a readable file: an acceptance where one pass finds that every condition holds at every state; else the first break is looked for.
+// The verdict on a readable file. One pass over the states finds the conditions that are true, all of them if the file is accepted; the search for the
+// first break goes on from there.
 fn judge(file: &[u8], outline: Outline) -> Verdict
     requires { ⌜ readOf (now file) ≡ Reading.Readable outline ⌝ }
     ensures { λ r. ⌜ r ≡ judgedOf (now (file .entry)) outline ⌝ }
@@ -164,7 +172,8 @@ fn judge(file: &[u8], outline: Outline) -> Verdict
         outline.transition,
     );
     let total = total(file, outline);
-    let held = held_states(
+    let blocks = layout(file, outline);
+    let found = find(
         file,
         outline,
         &spans,
@@ -173,10 +182,10 @@ fn judge(file: &[u8], outline: Outline) -> Verdict
         states,
         &nodes,
         &transitions,
+        blocks,
     );
-    if held == states {
-        return unnamed(0, total as u32);
-    }
+    let sure = conditions_in(blocks, found.blocks);
+    let end = conditions_in(blocks, found.blocks + 1);
     first_break(
         file,
         outline,
@@ -187,7 +196,9 @@ fn judge(file: &[u8], outline: Outline) -> Verdict
         nodes,
         transitions,
         total,
-        held,
+        sure,
+        end,
+        found.states,
     )
 }
 

@@ -1,15 +1,19 @@
--- Laws of the pass over the states that tests every condition at each.
---     all-parts            every condition of a file holds at a state: the opening, the covers, and the conditions of each transition and node
+-- Laws of the pass over the states that finds true conditions.
+--     blocks-parts         the first blocks hold at a state: the opening, the covers, and the conditions of each transition and node
 --     opening-fits, nodes-fit, places-fit, pass-fits     what the pass speaks of can be evaluated at every state
---     held-most, held-each, held-true      the states held: how many at most; every condition holds at each, and is true where all are held
+--     blocks-most, blocks-small     how many blocks are true at most; they have few conditions
+--     blocks-begun         the conditions of true blocks are true, and those of the next hold up to the first state that breaks it
 -- Assumes nothing.
 use mathlib.Core.Path.{_≡_, refl, sym, ap, ap₂, _∙_}
 use mathlib.Core.Bool.{Bool, true, false, not, cond, _&&_, _||_, and-eq-true-iff}
 use mathlib.Core.List.{List, [], _∷_, _++_, List·Memᴰ, List·Memᴰ·not-nil}
 use mathlib.Core.List.List·Memᴰ.{List·Memᴰ·head, List·Memᴰ·tail}
-use Prim.Native.Nat.{ℕ, zero, suc, _+_, _*_, _-_, _≤_, _<_}
+use Prim.Native.Nat.{ℕ, zero, suc, _+_, _*_, _-_, _/_, _≤_, _<_}
+use native.Mathlib.Nat.{mul-le-mul, div-lt-iff-lt-mul}
+use native.Mathlib.Decide.{decLt}
+use native.Mathlib.Numerals.{add-one}
 use native.Mathlib.Omega.{arith}
-use borrow.Author.Tests.{lt-ltb, eqb-true, eqb-false, eq-eqb, ne-eqb}
+use borrow.Author.Tests.{lt-ltb, le-ltb, eqb-true, eqb-false, eq-eqb, ne-eqb}
 use lib.ListN.{getD}
 use lib.Dec.{eqb, ltb}
 use lib.IntN.{ℤ}
@@ -27,20 +31,21 @@ use Rattle.evaluating.specs.State.{lowsOf, highsOf, State}
 use Rattle.evaluating.specs.Transition.{guardOf, assignmentsOf, allInRange, enabledOf, successorOf, stepOf}
 use Rattle.evaluating.proofs.Laws.Readable as evaluable
 use Rattle.judging.specs.Diagram.{nodeHolds, startHolds, claimedAt, pHolds, qAt, qHolds, carries, isDouble}
-use Rattle.judging.specs.Condition.{each, movesOf, conditionsFrom, conditionsOf, totalOf, conditionAt}
+use Rattle.judging.specs.Condition.{each, movesOf, totalOf, conditionAt}
 use Rattle.judging.specs.Holding.{implies, guardHolds, valuesFit, isEnabled, nextState, someNode, someTarget, conditionHolds}
 use Rattle.judging.specs.Layout.{openingOf, layoutOf}
 use Rattle.judging.specs.Testing.{nodesOf, transitionsOf}
+use Rattle.judging.specs.Search.{first}
 use Rattle.judging.specs.Verdict.{statesOf, stateAt, isTrue}
-use Rattle.judging.specs.Acceptance.{every, allHold, heldStatesOf, pairAt, edgeMarksOf, doubleMarksOf, qPlacesOf, openingAt, heldNodesOf}
+use Rattle.judging.specs.Acceptance.{every, allHold, blockOf, blockHolds, trueBlocksOf, heldStatesOf, conditionsIn, pairAt, edgeMarksOf, doubleMarksOf, qPlacesOf, openingAt, heldNodesOf}
 use Rattle.judging.specs.Acceptance.{openingHolds, coversHold, reachedOf, pairHolds, nodesHold, transitionsHold}
-use Rattle.judging.specs.Acceptance.{NodesFit, PlacesFit, PassFits}
+use Rattle.judging.specs.Acceptance.{NodesFit, PlacesFit, PassFits, Searched, Begun}
 use Rattle.judging.specs.declared.conditions.Condition.{Condition}
-use Rattle.judging.specs.declared.conditions.Condition.the-variants.{Start, Entry, Cover, Range, Step, Enabling}
-use Rattle.judging.proofs.Laws.Each.{tabulate-at}
-use Rattle.judging.proofs.Laws.Search.{first-most, first-passes, any-same}
-use Rattle.judging.proofs.Laws.Every.{every-same, every-swap}
-use Rattle.judging.proofs.Laws.Condition.{condition-listed, conditions-from, layout-bounds, cover-parts}
+use Rattle.judging.specs.declared.conditions.Condition.the-variants.{Start, Entry, Cover, Enabling}
+use Rattle.judging.proofs.Laws.Each.{tabulate-at, in-each}
+use Rattle.judging.proofs.Laws.Search.{first-most, first-passes, first-fails, any-same}
+use Rattle.judging.proofs.Laws.Every.{every-at, every-first, every-same, every-swap}
+use Rattle.judging.proofs.Laws.Condition.{layout-bounds, cover-parts, total-is, condition-opening, condition-cover, condition-move, condition-node}
 use Rattle.judging.proofs.Laws.Targets.{marked-some, node-at, transition-at, node-small, first-claimed}
 use Rattle.judging.proofs.Laws.Testing.{node-fits, claimed-fits, q-fits, transition-fits}
 use Rattle.judging.proofs.Laws.Verdict.{true-at}
@@ -199,7 +204,7 @@ module _ (file : List ℕ) (o : Outline) (r : readOf file ≡ Reading.Readable o
 
     covers-are : coversHold file (qPlacesOf file o covers) held covers state ≡ every (λ n. allHold file o (Cover n ∷ []) state) covers 0
     unfolding coversHold conditionHolds qHolds
-    covers-are = every-same _ _ covers 0 (λ n p q. one n (omega arith))
+    covers-are = every-same _ _ covers 0 0 (λ n l. one (0 + n) (omega arith))
       where
         one : (n : ℕ) → n < covers
             → implies (getD held n false) (holdsOf file (getD (qPlacesOf file o covers) n 0) state) ≡ allHold file o (Cover n ∷ []) state
@@ -260,37 +265,49 @@ module _ (file : List ℕ) (o : Outline) (r : readOf file ≡ Reading.Readable o
         (λ s. node-holds s n l) (λ s. reached-is s n t l m)
         ∙ sym (moves-do n t))
 
-    transitions-are : (from : ℕ)
-        → transitionsHold lows highs file nodes (transitionsOf file o) (edgeMarksOf file o) (doubleMarksOf file o) (held state) from (o .nodes)
+    transitions-are : (from end : ℕ) → end ≤ o .nodes
+        → transitionsHold lows highs file nodes (transitionsOf file o) (edgeMarksOf file o) (doubleMarksOf file o) (held state) from end (o .nodes)
         (o .transitions) state
-        ≡ every (λ n. every (λ t. allHold file o (movesOf file o n t) state) (o .transitions) 0) (o .nodes - from) from
+        ≡ every (λ n. every (λ t. allHold file o (movesOf file o n t) state) (o .transitions) 0) (end - from) from
     unfolding transitionsHold nodesHold
-    transitions-are from =
-        every-same (λ t. every (pairs t) (o .nodes - from) from)
-        (λ t. every (λ n. allHold file o (movesOf file o n t) state) (o .nodes - from) from) (o .transitions) 0
-        (λ t p q.
-        every-same (pairs t) (λ n. allHold file o (movesOf file o n t) state) (o .nodes - from) from
-        (λ n a b. pair-is n t (omega arith) (omega arith)))
-        ∙ every-swap (λ t n. allHold file o (movesOf file o n t) state) (o .transitions) 0 (o .nodes - from) from
+    transitions-are from end most =
+        every-same (λ t. every (pairs t) (end - from) from) (λ t. every (λ n. allHold file o (movesOf file o n t) state) (end - from) from)
+        (o .transitions) 0 0
+        (λ t p.
+        every-same (pairs (0 + t)) (λ n. allHold file o (movesOf file o n (0 + t)) state) (end - from) from from
+        (λ n a. pair-is (from + n) (0 + t) (omega arith) (omega arith)))
+        ∙ every-swap (λ t n. allHold file o (movesOf file o n t) state) (o .transitions) 0 (end - from) from
 
-    pub all-parts : allHold file o (conditionsOf file o) state
+    abbrev from : ℕ
+    from = layoutOf file o .from
+
+    first-block : blockHolds file o 0 state
+        ≡ (openingHolds file (openingAt file o) (held state) (o .nodes) state && coversHold file (qPlacesOf file o covers) (held state) covers state)
+    unfolding blockHolds blockOf allHold
+    first-block = ap₂ _&&_ (sym (opening-is state)) (all-each file o state (λ n. Cover n ∷ []) covers 0 ∙ sym (covers-are state))
+
+    node-block : (i : ℕ) → blockHolds file o (1 + i) state ≡ every (λ t. allHold file o (movesOf file o (from + i) t) state) (o .transitions) 0
+    unfolding blockHolds blockOf
+    node-block i =
+        let z : 1 + i ≡ suc i = omega arith in
+        rw z (all-each file o state (movesOf file o (from + i)) (o .transitions) 0)
+
+    pub blocks-parts : (end : ℕ) → end ≤ o .nodes → every (λ i. blockHolds file o i state) (1 + (end - from)) 0
         ≡ (openingHolds file (openingAt file o) (held state) (o .nodes) state
         && (coversHold file (qPlacesOf file o covers) (held state) covers state
-        && transitionsHold lows highs file nodes (transitionsOf file o) (edgeMarksOf file o) (doubleMarksOf file o) (held state) (layoutOf file o .from)
+        && transitionsHold lows highs file nodes (transitionsOf file o) (edgeMarksOf file o) (doubleMarksOf file o) (held state) from end
         (o .nodes) (o .transitions) state))
-    unfolding conditionsFrom allHold
-    all-parts =
-        let from = layoutOf file o .from in
-        let moves : ℕ → List Condition = λ n. each (movesOf file o n) (o .transitions) 0 in
-        rw (conditions-from file o r)
-        (ap₂ _&&_ (sym (opening-is state))
-        (all-append file o state (each (λ n. Cover n ∷ []) covers 0) (each moves (o .nodes - from) from)
-        ∙ ap₂ _&&_ (all-each file o state (λ n. Cover n ∷ []) covers 0 ∙ sym (covers-are state))
-        (all-each file o state moves (o .nodes - from) from
-        ∙ every-same (λ n. allHold file o (moves n) state) (λ n. every (λ t. allHold file o (movesOf file o n t) state) (o .transitions) 0)
-        (o .nodes - from) from
-        (λ n p q. all-each file o state (movesOf file o n) (o .transitions) 0)
-        ∙ sym (transitions-are from))))
+    unfolding every
+    blocks-parts end most =
+        let z : 1 + (end - from) ≡ suc (end - from) = omega arith in
+        let one : 0 + 1 ≡ 1 = omega arith in
+        rw (z, one)
+        (ap₂ _&&_ first-block
+        (every-same (λ i. blockHolds file o i state) (λ n. every (λ t. allHold file o (movesOf file o n t) state) (o .transitions) 0) (end - from) 1 from
+        (λ i l. node-block i)
+        ∙ sym (transitions-are from end most))
+        ∙ and-all (openingHolds file (openingAt file o) (held state) (o .nodes) state)
+        (coversHold file (qPlacesOf file o covers) (held state) covers state) _)
 
   -- ---- what the pass speaks of
   module _ (state : List ℤ) (s : State file (o .vars) state) where
@@ -325,16 +342,144 @@ module _ (file : List ℕ) (o : Outline) (r : readOf file ≡ Reading.Readable o
         moves = λ t l state s. rw (transition-at file o r t l) (transition-fits file o r t l state s);
       }
 
-  -- ---- the states
-  pub held-most : heldStatesOf file o ≤ statesOf file o
-  unfolding heldStatesOf
-  held-most = first-most (λ n. allHold file o (conditionsOf file o) (stateAt file o n)) (statesOf file o)
+  -- ---- true blocks
+  abbrev truth-of : ℕ → Bool
+  truth-of i = every (λ n. blockHolds file o i (stateAt file o n)) (statesOf file o) 0
 
-  pub held-each : (k n : ℕ) → k < totalOf file o → n < heldStatesOf file o → conditionHolds file o (conditionAt file o k) (stateAt file o n) ≡ true
-  unfolding heldStatesOf
-  held-each k n l m =
-      all-member file o (stateAt file o n) (conditionAt file o k) (conditionsOf file o)
-      (first-passes (λ n. allHold file o (conditionsOf file o) (stateAt file o n)) (statesOf file o) n m) (condition-listed file o r k l)
+  pub blocks-most : trueBlocksOf file o ≤ 1 + (o .nodes - layoutOf file o .from)
+  unfolding trueBlocksOf
+  blocks-most = first-most truth-of (1 + (o .nodes - layoutOf file o .from))
 
-  pub held-true : heldStatesOf file o ≡ statesOf file o → (k : ℕ) → k < totalOf file o → isTrue file o (conditionAt file o k) ≡ true
-  held-true e k l = true-at file o (conditionAt file o k) (λ n m. held-each k n l (omega (arith, e)))
+  member-true : (i : ℕ) → i < trueBlocksOf file o → (c : Condition) → List·Memᴰ c (blockOf file o i) → isTrue file o c ≡ true
+  unfolding trueBlocksOf blockHolds
+  member-true i l c m =
+      true-at file o c
+      (λ n h.
+      all-member file o (stateAt file o n) c (blockOf file o i)
+      (every-at (λ n. blockHolds file o i (stateAt file o n)) (statesOf file o) 0 n
+      (first-passes truth-of (1 + (o .nodes - layoutOf file o .from)) i l) (omega arith) (omega arith))
+      m)
+
+  -- the block of a condition, one of the first j + 1
+  pub record InBlock (j k : ℕ) : Type 0 where
+    pub which : ℕ
+    pub few : which ≤ j
+    pub listed : List·Memᴰ (conditionAt file o k) (blockOf file o which)
+
+  module _ (j k : ℕ) (l : k < conditionsIn (layoutOf file o) (suc j)) (there : k < totalOf file o) where
+    by-opening : k ≡ 0 → InBlock j k
+    unfolding blockOf
+    by-opening z = record { which = 0; few = omega arith; listed = rw (z, condition-opening file o r) (List·Memᴰ·head refl) }
+
+    by-cover : 0 < k → k ≤ covers → InBlock j k
+    unfolding blockOf
+    by-cover a b =
+        record {
+          which = 0;
+          few = omega arith;
+          listed =
+              rw (condition-cover file o r k a b)
+              (List·Memᴰ·tail (in-each (λ n. Cover n ∷ []) covers 0 (k - 1) (omega arith) (omega arith) (List·Memᴰ·head refl)));
+        }
+
+    by-move : covers < k → InBlock j k
+    unfolding blockOf conditionsIn
+    by-move a =
+        let size = layoutOf file o .size in
+        let i = (k - 1 - covers) / size in
+        let some = condition-move file o r k a there .some in
+        let below : i < j = div-lt-iff-lt-mul {k = size} {x = k - 1 - covers} {y = j} some .1 (omega arith) in
+        let z : i + layoutOf file o .from ≡ layoutOf file o .from + i = omega arith in
+        record { which = suc i; few = omega arith; listed = rw z at (condition-node file o r k a there) }
+
+    block-of : InBlock j k
+    block-of = go (decLt 0 k) (decLt covers k)
+      where
+        go : Dec (0 < k) → Dec (covers < k) → InBlock j k
+        go (no a) d = by-opening (omega arith)
+        go (yes a) (yes b) = by-move b
+        go (yes a) (no b) = by-cover a (omega arith)
+
+  -- so many blocks behind the first have few conditions
+  pub blocks-small : (j : ℕ) → j ≤ 1 + (o .nodes - layoutOf file o .from) → (covers ≤ 32) × (j * layoutOf file o .size ≤ 4096)
+  blocks-small j l =
+      let b = layout-bounds file o r in
+      let size = layoutOf file o .size in
+      let m = mul-le-mul {n₁ = j} {m₁ = size} {n₂ = 1 + (o .nodes - layoutOf file o .from)} {m₂ = size} l (omega arith) in
+      let e : (1 + (o .nodes - layoutOf file o .from)) * size ≡ size + (o .nodes - layoutOf file o .from) * size = omega arith in
+      (covers-few, omega arith)
+
+  searched-most : (j : ℕ) → suc j ≡ trueBlocksOf file o → conditionsIn (layoutOf file o) (suc j) ≤ totalOf file o
+  unfolding conditionsIn
+  searched-most j e =
+      let size = layoutOf file o .size in
+      let m = mul-le-mul {n₁ = j} {m₁ = size} {n₂ = o .nodes - layoutOf file o .from} {m₂ = size} (omega (arith, blocks-most)) (omega arith) in
+      rw (total-is file o r) (omega arith)
+
+  pub blocks-searched : Searched file o (conditionsIn (layoutOf file o) (trueBlocksOf file o))
+  unfolding conditionsIn
+  blocks-searched = go (trueBlocksOf file o) refl
+    where
+      go : (b : ℕ) → b ≡ trueBlocksOf file o → Searched file o (conditionsIn (layoutOf file o) b)
+      go zero e = record { passed = omega arith; held = λ k l. absurd (omega arith) }
+      go (suc j) e =
+          let m = searched-most j e in
+          record {
+            passed = m;
+            held = λ k l.
+                let b = block-of j k l (omega arith) in
+                member-true (b .which) (omega (arith, b .few, e)) (conditionAt file o k) (b .listed);
+          }
+
+  -- ---- the states that the first untrue block holds at
+  abbrev count : ℕ
+  count = 1 + (o .nodes - layoutOf file o .from)
+
+  abbrev next-holds : ℕ → Bool
+  next-holds n = blockHolds file o (trueBlocksOf file o) (stateAt file o n)
+
+  held-none : count ≤ trueBlocksOf file o → heldStatesOf file o ≡ 0
+  unfolding heldStatesOf
+  held-none l = rw (le-ltb (trueBlocksOf file o) count l)
+
+  module _ (l : trueBlocksOf file o < count) where
+    held-some : heldStatesOf file o ≡ first next-holds (statesOf file o)
+    unfolding heldStatesOf
+    held-some = rw (lt-ltb (trueBlocksOf file o) count l)
+
+    next-broken : first next-holds (statesOf file o) < statesOf file o
+    unfolding trueBlocksOf
+    next-broken = every-first next-holds (statesOf file o) (first-fails truth-of count l)
+
+    -- up to the first state that breaks it, that block holds, and so do those before it
+    up-to : (i n : ℕ) → i ≤ trueBlocksOf file o → n < first next-holds (statesOf file o) → blockHolds file o i (stateAt file o n) ≡ true
+    unfolding trueBlocksOf
+    up-to i n m h = go (decLt i (trueBlocksOf file o))
+      where
+        go : Dec (i < trueBlocksOf file o) → blockHolds file o i (stateAt file o n) ≡ true
+        go (yes q) =
+            every-at (λ n. blockHolds file o i (stateAt file o n)) (statesOf file o) 0 n (first-passes truth-of count i q) (omega arith)
+            (omega (arith, next-broken))
+        go (no q) = let same : i ≡ trueBlocksOf file o = omega arith in rw same (first-passes next-holds (statesOf file o) n h)
+
+  pub blocks-begun : Begun file o (conditionsIn (layoutOf file o) (trueBlocksOf file o)) (conditionsIn (layoutOf file o) (trueBlocksOf file o + 1))
+      (heldStatesOf file o)
+  unfolding blockHolds statesOf
+  blocks-begun =
+      record {
+        searched = blocks-searched;
+        below = below (decLt (trueBlocksOf file o) count);
+        each = λ k n l there m. holds k n (rw add-one at l) there m (decLt (trueBlocksOf file o) count);
+      }
+    where
+      below : Dec (trueBlocksOf file o < count) → heldStatesOf file o < statesOf file o
+      below (yes l) = rw (held-some l) (next-broken l)
+      below (no l) = rw (held-none (omega arith)) (evaluable.states-within file o r .0)
+
+      holds : (k n : ℕ) → k < conditionsIn (layoutOf file o) (suc (trueBlocksOf file o)) → k < totalOf file o → n < heldStatesOf file o
+          → Dec (trueBlocksOf file o < count) → conditionHolds file o (conditionAt file o k) (stateAt file o n) ≡ true
+      holds k n l there m (yes h) =
+          let b = block-of (trueBlocksOf file o) k l there in
+          all-member file o (stateAt file o n) (conditionAt file o k) (blockOf file o (b .which)) (up-to h (b .which) n (b .few) (rw (held-some h) at m))
+          (b .listed)
+      holds k n l there m (no h) = let z = held-none (omega arith) in absurd (omega arith)

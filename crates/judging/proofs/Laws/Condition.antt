@@ -3,10 +3,10 @@
 --     layout-invariance, layout-wait-for, layout-other       the layout of the conditions, by diagram
 --     opening-invariance, opening-other                      and the first condition
 --     layout-bounds               the layout stays within the limits
---     conditions-from             the list, by the layout
 --     total-is, total-most        how many conditions there are, by the layout; at most 2,081
 --     total-invariance, total-wait-for, total-chain          how many, by diagram
 --     condition-opening, condition-cover, condition-move     the condition of a number, by the layout
+--     condition-node              behind the covers it is one of the conditions of the node found by a quotient
 --     condition-listed            a number below the total has a condition of the list
 --     listed-parts, cover-parts   what a listed condition, and the cover of a node covered, speaks of is there
 -- Assumes nothing.
@@ -257,6 +257,7 @@ module _ (file : List ℕ) (o : Outline) where
     pub nodes : o .nodes ≤ 32
     pub covers : l .covers ≤ o .nodes
     pub from : l .from ≤ o .nodes
+    pub size : l .size ≤ 65
     pub product : (o .nodes - l .from) * l .size ≤ 2048
 
   -- the condition of that number
@@ -321,10 +322,6 @@ module _ (file : List ℕ) (o : Outline) (r : readOf file ≡ Reading.Readable o
           let b : diagram file o ≡ 2 → ⊥ = λ z. omega arith in
           rw (layout-chain file o c, opening-other file o a, ne-eqb (diagram file o) 1 a, ne-eqb (diagram file o) 2 b)
 
-  pub conditions-from : conditionsOf file o ≡ conditionsFrom file o (openingOf file o) (layout .covers) (layout .from)
-  unfolding conditionsFrom coversOf
-  conditions-from = conditions-laid
-
   pub total-is : totalOf file o ≡ 1 + layout .covers + (o .nodes - layout .from) * layout .size
   unfolding totalOf
   total-is = rw conditions-laid (blocks-length (openingOf file o) (layout .covers) (ofNode file o) _ _ _ sizes)
@@ -362,6 +359,19 @@ module _ (file : List ℕ) (o : Outline) (r : readOf file ≡ Reading.Readable o
           blocks-below (openingOf file o) (layout .covers) (ofNode file o) (o .nodes - layout .from) (layout .from) (layout .size) sizes k l below in
           omega arith
 
+  pub condition-node : (k : ℕ) → layout .covers < k → k < totalOf file o → List·Memᴰ (conditionAt file o k) (ofNode file o (nodeBy layout k))
+  unfolding conditionAt
+  condition-node k l m =
+      let below = rw total-is at m in
+      let some = condition-move k l m .some in
+      let node = condition-move k l m .node in
+      rw (
+        conditions-laid,
+        blocks-move (openingOf file o) (layout .covers) (ofNode file o) (o .nodes - layout .from) (layout .from) (layout .size) sizes k l below,
+      )
+      (at-in (ofNode file o (nodeBy layout k)) (positionBy layout k) Start
+      (rw (node-size (nodeBy layout k) (omega arith) node) (mod-lt (k - 1 - layout .covers) some)))
+
   -- ---- bounds and totals
   pub layout-bounds : Bounds file o layout
   layout-bounds = by (property-kind file o r)
@@ -382,6 +392,7 @@ module _ (file : List ℕ) (o : Outline) (r : readOf file ≡ Reading.Readable o
             nodes = few;
             covers = omega arith;
             from = some;
+            size = omega (arith, short);
             product = mul-le-mul {n₁ = o .nodes - 1} {m₁ = 2 * o .transitions} {n₂ = 32} {m₂ = 64} (omega (arith, few)) (omega (arith, short));
           })
       by (inr (inl i)) =
@@ -390,6 +401,7 @@ module _ (file : List ℕ) (o : Outline) (r : readOf file ≡ Reading.Readable o
             nodes = few;
             covers = omega arith;
             from = omega arith;
+            size = omega (arith, short);
             product = mul-le-mul {n₁ = o .nodes - 0} {m₁ = 2 * o .transitions} {n₂ = 32} {m₂ = 64} (omega (arith, few)) (omega (arith, short));
           })
       by (inr (inr c)) =
@@ -398,6 +410,7 @@ module _ (file : List ℕ) (o : Outline) (r : readOf file ≡ Reading.Readable o
             nodes = few;
             covers = some;
             from = some;
+            size = omega (arith, short);
             product =
                 let p : (o .nodes - 1) * (2 * o .transitions + 1) ≤ 31 * 65 =
                 mul-le-mul {n₁ = o .nodes - 1} {m₁ = 2 * o .transitions + 1} {n₂ = 31} {m₂ = 65} (omega (arith, few)) (omega (arith, short)) in

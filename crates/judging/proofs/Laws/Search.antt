@@ -1,10 +1,12 @@
 -- Laws of the search for the first number that fails a test.
 --     first-is                             a number that fails behind others that pass is the first; so is n where all below it pass
 --     first-most, first-passes, first-fails     it is at most n; the numbers below it pass; it fails itself where it is below n
+--     first-same                           tests that agree at each number have the same first
+--     first-both                           the first that fails one of two tests, by the first that fails the other
 --     any-at, any-same                     one number that passes is enough; tests that agree at each number agree
 -- Assumes nothing.
 use mathlib.Core.Path.{_≡_, refl, sym, ap₂, _∙_}
-use mathlib.Core.Bool.{Bool, true, false, cond, _||_, false≢true}
+use mathlib.Core.Bool.{Bool, true, false, cond, _&&_, _||_, false≢true, and-eq-true-iff}
 use Prim.Native.Nat.{ℕ, zero, suc, _+_, _≤_, _<_}
 use native.Mathlib.Decide.{decLt}
 use native.Mathlib.Omega.{arith}
@@ -14,6 +16,13 @@ use Rattle.judging.specs.Search.{firstFrom, first}
 pub or-second : (a b : Bool) → b ≡ true → (a || b) ≡ true
 or-second true b e = refl
 or-second false b e = e
+
+no-first : (a b : Bool) → a ≡ false → (a && b) ≡ false
+no-first a b e = rw e
+
+no-second : (a b : Bool) → b ≡ false → (a && b) ≡ false
+no-second true b e = e
+no-second false b e = refl
 
 module _ (test : ℕ → Bool) where
   from-is : (n at r : ℕ) → at ≤ r → r ≤ at + n → ((k : ℕ) → at ≤ k → k < r → test k ≡ true) → (r < at + n → test r ≡ false) → firstFrom test n at ≡ r
@@ -85,6 +94,31 @@ module _ (test : ℕ → Bool) where
   any-at (suc n) at (suc i) l t =
       let z : at + suc i ≡ at + 1 + i = omega arith in
       or-second (test at) (any test n (at + 1)) (any-at n (at + 1) i (omega arith) (rw z at t))
+
+pub first-same : (f g : ℕ → Bool) (n : ℕ) → ((i : ℕ) → i < n → f i ≡ g i) → first f n ≡ first g n
+first-same f g n e =
+    let m = first-most g n in
+    first-is f n (first g n) m (λ k l. e k (omega arith) ∙ first-passes g n k l) (λ l. e (first g n) l ∙ first-fails g n l)
+
+pub first-both : (f g : ℕ → Bool) (n : ℕ) → first (λ i. f i && g i) n ≡ first g (first f n)
+first-both f g n = go (first f n) refl (first g (first f n)) refl
+  where
+    go : (p : ℕ) → first f n ≡ p → (q : ℕ) → first g (first f n) ≡ q → first (λ i. f i && g i) n ≡ q
+    go p is q it =
+        let a : p ≤ n = rw is at (first-most f n) in
+        let b : q ≤ p = rw (it, is) at (first-most g (first f n)) in
+        first-is (λ i. f i && g i) n q (omega arith)
+        (λ k l.
+        and-eq-true-iff (f k) (g k) .1
+        (first-passes f n k (rw is (omega arith)), first-passes g (first f n) k (rw it l)))
+        (λ l. fails l (decLt q p))
+      where
+        fails : q < n → Dec (q < p) → (f q && g q) ≡ false
+        fails l (yes m) = no-second (f q) (g q) (rw it at (first-fails g (first f n) (rw (it, is) m)))
+        fails l (no m) =
+            let b : q ≤ p = rw (it, is) at (first-most g (first f n)) in
+            let same : p ≡ q = omega arith in
+            no-first (f q) (g q) (rw (is, same) at (first-fails f n (rw (is, same) l)))
 
 pub any-same : (f g : ℕ → Bool) (n at : ℕ) → ((i : ℕ) → i < n → f (at + i) ≡ g (at + i)) → any f n at ≡ any g n at
 unfolding any

@@ -25,15 +25,14 @@ use Rattle.evaluating.proofs.Laws.Readable.{ranges, states-within, numbered, fi
 use Rattle.judging.specs.Condition.{totalOf, conditionAt, Listed, nodeNumber, transitionNumber}
 use Rattle.judging.specs.Holding.{conditionHolds}
 use Rattle.judging.specs.Testing.{nodesOf, transitionsOf, testOf, passesOf, TestFits}
-use Rattle.judging.specs.Verdict.{statesOf, stateAt, unnamedOf, namedOf, isTrue, judgedOf, testedOf}
-use Rattle.judging.specs.Acceptance.{heldStatesOf, LookedUp}
+use Rattle.judging.specs.Verdict.{statesOf, stateAt, unnamedOf, namedOf, judgedOf, testedOf}
+use Rattle.judging.specs.Acceptance.{LookedUp, Searched, Begun}
 use Rattle.judging.specs.declared.conditions.Condition.{Condition}
 use Rattle.judging.specs.declared.conditions.Condition.the-variants.{Start, Entry, Cover, Range, Step, Enabling}
 use Rattle.judging.specs.declared.testing.Test.{Test}
 use Rattle.judging.specs.declared.verdicts.Single.{Single}
 use Rattle.judging.proofs.Laws.Condition.{Parts, condition-listed, listed-parts, total-most}
 use Rattle.judging.proofs.Laws.Testing.{prepared, test-fits}
-use Rattle.judging.proofs.Laws.Acceptance.{held-each}
 use Rattle.judging.proofs.Laws.Verdict.{true-at, judged-broken, judged-whole}
 
 pub count-is : (file : List ℕ) (o : Outline) {low high : List ℤ} {states : ℕ} → low ≡ lowsOf file (o .vars) → high ≡ highsOf file (o .vars)
@@ -125,11 +124,6 @@ module _ (file : List ℕ) (o : Outline) where
     pub here : n < statesOf file o → state ≡ stateAt file o n
     pub held : (k : ℕ) → k < n → test (stateAt file o k) ≡ true
 
-  -- so many conditions are passed, each of them true
-  pub record Searched (number : ℕ) : Type 0 where
-    pub passed : number ≤ totalOf file o
-    pub held : (k : ℕ) → k < number → isTrue file o (conditionAt file o k) ≡ true
-
   -- the search was left at a state that breaks the condition
   pub record Broke (number : ℕ) (state : List ℤ) : Type 0 where
     pub at : ℕ
@@ -137,9 +131,6 @@ module _ (file : List ℕ) (o : Outline) where
     pub is : state ≡ stateAt file o at
     pub held : (k : ℕ) → k < at → conditionHolds file o (conditionAt file o number) (stateAt file o k) ≡ true
     pub breaks : conditionHolds file o (conditionAt file o number) (stateAt file o at) ≡ false
-
-  pub searched-begin : Searched 0
-  searched-begin = record { passed = omega arith; held = λ k l. absurd (omega arith) }
 
 -- ---- one state after the other
 module _ (file : List ℕ) (o : Outline) {low high : List ℤ} {states : ℕ} (r : readOf file ≡ Reading.Readable o)
@@ -157,6 +148,9 @@ module _ (file : List ℕ) (o : Outline) {low high : List ℤ} {states : ℕ} (r
     at-within = numbered file o r n number-below .0
 
     module _ {test : List ℤ → Bool} {state : List ℤ} (p : Passed file o test state n) where
+      pub pass-state : state ≡ stateAt file o n
+      pass-state = p .here number-below
+
       pub pass-within : State file (o .vars) state
       pass-within = rw (p .here number-below) at-within
 
@@ -199,15 +193,17 @@ module _ {file : List ℕ} {o : Outline} {low high : List ℤ} {states : ℕ} {n
   abbrev pub holdsAt : ℕ → List ℤ → Bool
   holdsAt number state = conditionHolds file o (conditionAt file o number) state
 
-  -- before the first state that breaks a condition, every condition holds
-  pub passed-begin : {number n : ℕ} → number < total → n < states → n ≡ heldStatesOf file o → {state : List ℤ} → state ≡ stateOf low high n
-      → Passed file o (holdsAt number) state n
-  passed-begin {number} {n} below l is e =
-      let m : n < statesOf file o = rw (← states-all) l in
+  pub passed-begin : (number : ℕ) → Passed file o (holdsAt number) low 0
+  passed-begin number = pass-begin file o (h .readable) (h .low-is) (h .high-is) states-all
+
+  pub passed-from : {number sure end from : ℕ} → number < total → Begun file o sure end from → number < end → {state : List ℤ}
+      → state ≡ stateOf low high from → Passed file o (holdsAt number) state from
+  passed-from {number} {sure} {end} {from} l b m e =
+      let f = b .below in
       record {
         passed = omega arith;
-        here = λ j. state-is n e;
-        held = λ i j. held-each file o (h .readable) number i (rw (← h .total-is) below) (rw (← is) j);
+        here = λ j. state-is from e;
+        held = λ n j. b .each number n m (rw (← h .total-is) l) j;
       }
 
   module _ {number : ℕ} (below : number < total) {c : Condition} (is : c ≡ conditionAt file o number) where

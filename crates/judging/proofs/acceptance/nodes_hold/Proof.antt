@@ -15,13 +15,13 @@ use Rattle.judging.proofs.acceptance.nodes_hold.Statement.{statement}
 use Rattle.judging.proofs.acceptance.nodes_hold.Tie as tie
 
 abbrev Inv-loop : tie.InvT-loop
-Inv-loop file spans nodes marks doubles held from count transition stepped n₀ n =
+Inv-loop file spans nodes marks doubles held from end count transition stepped n₀ n =
     Passed
     (λ k. implies (getD held k false) (pairHolds file nodes marks k (32 * k + transition) (getD doubles (32 * k + transition) false) count stepped))
-    true from (count - from) count n
+    true from (end - from) end n
 
 abbrev μ-loop : tie.MeasureT-loop
-μ-loop file spans nodes marks doubles held from count transition stepped n₀ n = count - n
+μ-loop file spans nodes marks doubles held from end count transition stepped n₀ n = end - n
 
 loop-holds : tie.Need-loop-holds Inv-loop μ-loop
 loop-holds c = passed-begin _ _ _ _ _ (search needs)
@@ -41,7 +41,8 @@ element-copy-out-double c = search needs
 pair-holds-requires : tie.Need-pair-holds-requires Inv-loop μ-loop
 pair-holds-requires c κs =
     let p = c .before .before .before .before .before .before .pre in
-    (p .0, (p .1 .0, (c .before .before .before .loop-test .taken, omega (arith, p .1 .0 .few))))
+    let l = c .before .before .before .loop-test .taken in
+    (p .0, (p .1 .0, (omega (arith, l, p .1 .1 .0 .1), omega (arith, l, p .1 .0 .few, p .1 .1 .0 .1, p .1 .1 .1))))
 
 returns : tie.Need-returns Inv-loop μ-loop
 unfolding nodesHold

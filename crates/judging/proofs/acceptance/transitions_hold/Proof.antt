@@ -14,11 +14,11 @@ use Rattle.judging.proofs.acceptance.transitions_hold.Statement.{statem
 use Rattle.judging.proofs.acceptance.transitions_hold.Tie as tie
 
 abbrev Inv-loop : tie.InvT-loop
-Inv-loop file spans low high nodes transitions marks doubles held from count number state t₀ t =
-    Passed (λ k. nodesHold file nodes marks doubles held from count k (stepOf low high file (getD transitions k 0) state)) true 0 number number t
+Inv-loop file spans low high nodes transitions marks doubles held from end count number state t₀ t =
+    Passed (λ k. nodesHold file nodes marks doubles held from end count k (stepOf low high file (getD transitions k 0) state)) true 0 number number t
 
 abbrev μ-loop : tie.MeasureT-loop
-μ-loop file spans low high nodes transitions marks doubles held from count number state t₀ t = number - t
+μ-loop file spans low high nodes transitions marks doubles held from end count number state t₀ t = number - t
 
 loop-holds : tie.Need-loop-holds Inv-loop μ-loop
 loop-holds c = passed-begin _ _ _ _ _ (search needs)
@@ -44,7 +44,7 @@ returns : tie.Need-returns Inv-loop μ-loop
 unfolding transitionsHold
 returns c =
     passed-fails (c .before .before .before .before .before .loop .inv) (c .before .before .before .before .loop-test .taken)
-    (ap (nodesHold _ _ _ _ _ _ _ _) (sym (c .before .before .step .ensures)) ∙ sym (c .before .nodes-hold .ensures) ∙ not-true _ (c .if1 .taken))
+    (ap (nodesHold _ _ _ _ _ _ _ _ _) (sym (c .before .before .step .ensures)) ∙ sym (c .before .nodes-hold .ensures) ∙ not-true _ (c .if1 .taken))
 
 add-t : tie.Need-add-t Inv-loop μ-loop
 add-t c = search needs
@@ -55,7 +55,7 @@ loop-less c = search needs
 loop-again : tie.Need-loop-again Inv-loop μ-loop
 loop-again c =
     passed-more (c .before .before .before .before .before .loop .inv) (c .before .before .before .before .loop-test .taken)
-    (ap (nodesHold _ _ _ _ _ _ _ _) (sym (c .before .before .step .ensures)) ∙ sym (c .before .nodes-hold .ensures) ∙ not-false _ (c .if1 .left))
+    (ap (nodesHold _ _ _ _ _ _ _ _ _) (sym (c .before .before .step .ensures)) ∙ sym (c .before .nodes-hold .ensures) ∙ not-false _ (c .if1 .left))
 
 returns-2 : tie.Need-returns-2 Inv-loop μ-loop
 unfolding transitionsHold

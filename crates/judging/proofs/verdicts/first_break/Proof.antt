@@ -7,28 +7,29 @@ use Prim.Native.Nat.{_-_, _<_}
 use native.Mathlib.Omega.{arith}
 use borrow.Author.Needs.{needs}
 use borrow.Author.Tests.{not-true, not-false}
+use Rattle.judging.specs.Acceptance.{Searched}
 use Rattle.judging.specs.Condition.{conditionAt}
 use Rattle.judging.specs.Holding.{conditionHolds}
 use Rattle.judging.specs.Testing.{passesOf}
 use Rattle.judging.proofs.Steps.Testing.{passes-vacuous, passes-concluded}
 use Rattle.judging.proofs.Steps.Verdict.{Ready, looked-ready, state-asks, states-small, total-small, test-asks, named-asks}
-use Rattle.judging.proofs.Steps.Verdict.{Passed, passed-begin, passed-asks, advance-asks, passed-more, passed-broke, Broke}
-use Rattle.judging.proofs.Steps.Verdict.{Searched, searched-begin, searched-more, searched-broke, searched-end}
+use Rattle.judging.proofs.Steps.Verdict.{Passed, passed-begin, passed-from, passed-asks, advance-asks, passed-more, passed-broke, Broke}
+use Rattle.judging.proofs.Steps.Verdict.{searched-more, searched-broke, searched-end}
 use Rattle.judging.proofs.verdicts.first_break.Statement.{statement}
 use Rattle.judging.proofs.verdicts.first_break.Tie as tie
 
 abbrev Inv-states : tie.InvT-states
-Inv-states file outline spans low high states nodes transitions total held start number state₀ test premise n₀ state n =
+Inv-states file outline spans low high states nodes transitions total sure end from start number state₀ test premise n₀ state n =
     Passed file outline (conditionHolds file outline (conditionAt file outline number)) state n
 
 abbrev μ-states : tie.MeasureT-states
-μ-states file outline spans low high states nodes transitions total held start number state₀ test premise n₀ state n = states - n
+μ-states file outline spans low high states nodes transitions total sure end from start number state₀ test premise n₀ state n = states - n
 
 abbrev Inv-conditions : tie.InvT-conditions
-Inv-conditions file outline spans low high states nodes transitions total held start number₀ state₀ number state = Searched file outline number
+Inv-conditions file outline spans low high states nodes transitions total sure end from start number₀ state₀ number state = Searched file outline number
 
 abbrev μ-conditions : tie.MeasureT-conditions
-μ-conditions file outline spans low high states nodes transitions total held start number₀ state₀ number state = total - number
+μ-conditions file outline spans low high states nodes transitions total sure end from start number₀ state₀ number state = total - number
 
 abbrev start : tie.After-state-of Inv-states μ-states Inv-conditions μ-conditions → tie.Start Inv-states μ-states Inv-conditions μ-conditions
 start c = c .before .before
@@ -45,90 +46,85 @@ broke : (c : tie.Left-conditions Inv-states μ-states Inv-conditions μ-conditio
 broke c below =
     ⊎-elim (λ w. absurd (omega (arith, below, w .0 .left)))
     (λ w.
-    rw (w .10)
-    (passed-broke (ready (c .before .before)) below (w .1 .ensures) (w .2 .ensures) (w .3 .inv) (w .4 .taken)
-    (passes-concluded _ _ _ _ _ (w .6 .ensures) (w .7 .taken) (w .8 .ensures) ∙ not-true _ (w .9 .taken))))
+    rw (w .11)
+    (passed-broke (ready (c .before .before)) below (w .1 .ensures) (w .2 .ensures) (w .4 .inv) (w .5 .taken)
+    (passes-concluded _ _ _ _ _ (w .7 .ensures) (w .8 .taken) (w .9 .ensures) ∙ not-true _ (w .10 .taken))))
     (c .conditions-test .came)
 
 state-of-requires : tie.Need-state-of-requires Inv-states μ-states Inv-conditions μ-conditions
-state-of-requires c κs = let p = c .before .pre in state-asks (looked-ready (p .0) (p .1 .0) (p .1 .1 .0)) (p .1 .1 .1 .1)
+state-of-requires c κs =
+    let p = c .before .pre in
+    state-asks (looked-ready (p .0) (p .1 .0) (p .1 .1 .0)) (omega (arith, p .1 .0, p .1 .1 .1 .below))
 
 conditions-holds : tie.Need-conditions-holds Inv-states μ-states Inv-conditions μ-conditions
-conditions-holds c = searched-begin _ _
+conditions-holds c = c .before .before .pre .1 .1 .1 .searched
 
 condition-at-requires : tie.Need-condition-at-requires Inv-states μ-states Inv-conditions μ-conditions
-condition-at-requires c κs = (start (c .before .before) .pre .0 .readable, omega (arith, start (c .before .before) .pre .1 .1 .0, c .conditions-test .taken))
+condition-at-requires c κs = (c .before .before .before .before .pre .0 .readable, omega (arith, c .before .before .before .before .pre .1 .1 .0, c .conditions-test .taken))
 
 test-of-requires : tie.Need-test-of-requires Inv-states μ-states Inv-conditions μ-conditions
 test-of-requires c κs = test-asks (ready (c .before .before .before)) (c .before .conditions-test .taken) (c .condition-at .ensures)
 
 states-holds : tie.Need-states-holds Inv-states μ-states Inv-conditions μ-conditions
 states-holds c =
-    let d = c .before .before .before .before in
-    let p = start d .pre .1 .1 .1 in
-    passed-begin (ready d) (c .before .before .conditions-test .taken) (p .1) (p .0) (c .before .before .before .before .state-of .ensures)
+    let d = ready (c .before .before .before .before .before) in
+    ⊎-elim (λ w. rw (w .1, w .2) (passed-from d (c .before .before .before .conditions-test .taken) (c .before .before .before .before .before .before .before .pre .1 .1 .1) (w .0 .taken) (c .before .before .before .before .before .state-of .ensures)))
+    (λ w. rw (w .1, w .2) (passed-begin d _)) (c .if1 .came)
 
 advance-requires : tie.Need-advance-requires Inv-states μ-states Inv-conditions μ-conditions
 advance-requires c κs =
-    let d = c .before .before .before in
-    advance-asks (ready (d .before .before .before)) (d .before .conditions-test .taken) (d .condition-at .ensures)
-    (c .before .before .test-of .ensures) (c .before .states .inv) (c .states-test .taken)
+    advance-asks (ready (c .before .before .before .before .before .before .before)) (c .before .before .before .before .before .conditions-test .taken) (c .before .before .before .before .condition-at .ensures) (c .before .before .before .test-of .ensures) (c .before .states .inv) (c .states-test .taken)
 
 holds-requires : tie.Need-holds-requires Inv-states μ-states Inv-conditions μ-conditions
 holds-requires c κs =
-    let asks =
-    passed-asks (ready (c .before .before .before .before .before .before .before)) (c .before .before .before .before .before .conditions-test .taken) (c .before .before .before .before .condition-at .ensures) (c .before .before .before .test-of .ensures) (c .before .before .states .inv) (c .before .states-test .taken) in
-    (asks .1 .premise _ (asks .0), c .before .before .before .before .before .before .before .before .before .pre .0 .spans-are)
+    let asks = passed-asks (ready (c .before .before .before .before .before .before .before .before)) (c .before .before .before .before .before .before .conditions-test .taken) (c .before .before .before .before .before .condition-at .ensures) (c .before .before .before .before .test-of .ensures) (c .before .before .states .inv) (c .before .states-test .taken) in
+    (asks .1 .premise _ (asks .0), c .before .before .before .before .before .before .before .before .before .before .pre .0 .spans-are)
 
 concludes-requires : tie.Need-concludes-requires Inv-states μ-states Inv-conditions μ-conditions
 concludes-requires c κs = (
-  c .before .before .before .before .before .before .before .before .before .before .before .pre .0 .spans-are,
-  passed-asks (ready (c .before .before .before .before .before .before .before .before .before)) (c .before .before .before .before .before .before .before .conditions-test .taken) (c .before .before .before .before .before .before .condition-at .ensures) (c .before .before .before .before .before .test-of .ensures) (c .before .before .before .before .states .inv) (c .before .before .before .states-test .taken),
+  c .before .before .before .before .before .before .before .before .before .before .before .before .pre .0 .spans-are,
+  passed-asks (ready (c .before .before .before .before .before .before .before .before .before .before)) (c .before .before .before .before .before .before .before .before .conditions-test .taken) (c .before .before .before .before .before .before .before .condition-at .ensures) (c .before .before .before .before .before .before .test-of .ensures) (c .before .before .before .before .states .inv) (c .before .before .before .states-test .taken),
 )
 
 add-n : tie.Need-add-n Inv-states μ-states Inv-conditions μ-conditions
-add-n c = omega (arith, c .before .before .before .states-test .taken, states-small (ready (c .before .before .before .before .before .before .before .before .before)))
+add-n c = omega (arith, c .before .before .before .before .states-test .taken, states-small (ready (c .before .before .before .before .before .before .before .before .before .before .before)))
 
 states-less : tie.Need-states-less Inv-states μ-states Inv-conditions μ-conditions
-states-less c = omega (arith, c .before .before .before .states-test .taken)
+states-less c = omega (arith, c .before .before .before .before .states-test .taken)
 
 states-again : tie.Need-states-again Inv-states μ-states Inv-conditions μ-conditions
 states-again c =
-    let premise = c .before .holds .ensures in
-    passed-more (ready (c .before .before .before .before .before .before .before .before .before)) (c .before .before .before .before .before .before .before .conditions-test .taken) (c .before .before .before .before .before .before .condition-at .ensures) (c .before .before .before .before .before .test-of .ensures) (c .before .before .before .before .states .inv) (c .before .before .before .states-test .taken)
+    let premise = c .before .before .holds .ensures in
+    passed-more (ready (c .before .before .before .before .before .before .before .before .before .before .before)) (c .before .before .before .before .before .before .before .before .before .conditions-test .taken) (c .before .before .before .before .before .before .before .before .condition-at .ensures) (c .before .before .before .before .before .before .before .test-of .ensures) (c .before .before .before .before .before .states .inv) (c .before .before .before .before .states-test .taken)
     (⊎-elim {C = passesOf _ _ _ _ _ ≡ true} (λ w. passes-concluded _ _ _ _ _ premise (w .0 .taken) (w .1 .ensures) ∙ not-false _ (w .2 .left))
     (λ w. passes-vacuous _ _ _ _ _ premise (w .left))
-    (c .if1 .came))
-    (c .before .before .advance .ensures)
+    (c .before .if2 .came))
+    (c .before .before .before .advance .ensures)
 
 add-number : tie.Need-add-number Inv-states μ-states Inv-conditions μ-conditions
-add-number c =
-    let d = c .before .before .before .before in
-    omega (arith, d .conditions-test .taken, total-small (ready (d .before .before)))
+add-number c = omega (arith, c .before .before .before .before .before .conditions-test .taken, total-small (ready (c .before .before .before .before .before .before .before)))
 
 conditions-less : tie.Need-conditions-less Inv-states μ-states Inv-conditions μ-conditions
-conditions-less c = omega (arith, c .before .before .before .before .conditions-test .taken)
+conditions-less c = omega (arith, c .before .before .before .before .before .conditions-test .taken)
 
 conditions-again : tie.Need-conditions-again Inv-states μ-states Inv-conditions μ-conditions
 conditions-again c =
-    let d = c .before .before .before .before in
-    searched-more (ready (d .before .before)) (d .before .conditions .inv) (d .conditions-test .taken) (c .before .states .inv) (c .states-test .left)
+    searched-more (ready (c .before .before .before .before .before .before .before)) (c .before .before .before .before .before .before .conditions .inv) (c .before .before .before .before .before .conditions-test .taken) (c .before .states .inv) (c .states-test .left)
 
 condition-at-requires-2 : tie.Need-condition-at-requires-2 Inv-states μ-states Inv-conditions μ-conditions
-condition-at-requires-2 c κs = (start (c .before .before .before) .pre .0 .readable, omega (arith, start (c .before .before .before) .pre .1 .1 .0, c .if3 .taken))
+condition-at-requires-2 c κs = (c .before .before .before .before .before .pre .0 .readable, omega (arith, c .before .before .before .before .before .pre .1 .1 .0, c .if4 .taken))
 
 cast-named : tie.Need-cast-named Inv-states μ-states Inv-conditions μ-conditions
 cast-named c = record { fits = omega (arith, total-small (ready (c .before .before .before .before))) }
 
 named-requires : tie.Need-named-requires Inv-states μ-states Inv-conditions μ-conditions
-named-requires c κs = named-asks (ready (c .before .before .before .before)) (c .before .if3 .taken) (c .condition-at2 .ensures)
+named-requires c κs = named-asks (ready (c .before .before .before .before)) (c .before .if4 .taken) (c .condition-at2 .ensures)
 
 returns : tie.Need-returns Inv-states μ-states Inv-conditions μ-conditions
 returns c =
     let d = c .before .before .before in
     c .named .ensures
-    ∙ searched-broke (ready (d .before .before)) (d .before .conditions .inv) (c .before .before .if3 .taken) (c .before .condition-at2 .ensures)
-    (broke d (c .before .before .if3 .taken))
+    ∙ searched-broke (ready (c .before .before .before .before .before)) (c .before .before .before .before .conditions .inv) (c .before .before .if4 .taken) (c .before .condition-at2 .ensures) (broke d (c .before .before .if4 .taken))
 
 cast-unnamed : tie.Need-cast-unnamed Inv-states μ-states Inv-conditions μ-conditions
 cast-unnamed c = record { fits = omega (arith, total-small (ready (c .before .before .before))) }
@@ -137,9 +133,7 @@ unnamed-requires : tie.Need-unnamed-requires Inv-states μ-states Inv-conditions
 unnamed-requires c κs = search needs
 
 returns-2 : tie.Need-returns-2 Inv-states μ-states Inv-conditions μ-conditions
-returns-2 c =
-    let d = c .before .before in
-    c .unnamed .ensures ∙ searched-end (ready (d .before .before)) (d .before .conditions .inv) (c .before .if3 .left)
+returns-2 c = c .unnamed .ensures ∙ searched-end (ready (c .before .before .before .before)) (c .before .before .before .conditions .inv) (c .before .if4 .left)
 
 pub first-break-spec : {M : Type 1} → statement M
 first-break-spec =

@@ -1,16 +1,14 @@
--- `judging::verdicts::judge` meets its contract: where every condition holds at every state, all are true.
+-- `judging::verdicts::judge` meets its contract: what the pass finds is what the search may leave out.
 -- Assumes nothing.
-use mathlib.Core.Path.{_≡_, sym, _∙_}
+use mathlib.Core.Path.{_≡_}
 use native.Mathlib.Omega.{arith}
 use borrow.Author.Needs.{needs}
 use Rattle.reading.proofs.Laws.Readable.{small, variables-within}
 use Rattle.judging.specs.Acceptance.{LookedUp}
 use Rattle.judging.specs.Testing.{nodesOf, transitionsOf}
 use Rattle.judging.specs.Verdict.{statesOf}
-use Rattle.judging.proofs.Laws.Acceptance.{held-most, held-true}
-use Rattle.judging.proofs.Laws.Condition.{total-most}
-use Rattle.judging.proofs.Laws.Verdict.{judged-whole}
 use Rattle.judging.proofs.Steps.Verdict.{count-is, count-asks, spans-serve, nodes-ask, transitions-ask}
+use Rattle.judging.proofs.Steps.Everywhere.{found-few, found-small, found-begun}
 use Rattle.judging.proofs.verdicts.judge.Statement.{statement}
 use Rattle.judging.proofs.verdicts.judge.Tie as tie
 
@@ -56,32 +54,36 @@ transition-places-requires c κs = transitions-ask _ _ (c .before .before .befor
 total-requires : tie.Need-total-requires
 total-requires c κs = c .before .before .before .before .before .before .before .pre
 
-held-states-requires : tie.Need-held-states-requires
-held-states-requires c κs = let d = c .before .before .before in (known d, counted d)
+layout-requires : tie.Need-layout-requires
+layout-requires c κs = c .before .before .before .before .before .before .before .before .pre
 
-cast-unnamed : tie.Need-cast-unnamed
-cast-unnamed c =
-    let d = c .before .before .before .before .before in
-    record { fits = omega (arith, total-most _ _ (start d .pre), d .total .ensures) }
+find-requires : tie.Need-find-requires
+find-requires c κs = let d = c .before .before .before .before in (known d, (counted d, c .before .before .before .layout .ensures))
 
-unnamed-requires : tie.Need-unnamed-requires
-unnamed-requires c κs = search needs
+conditions-in-requires : tie.Need-conditions-in-requires
+conditions-in-requires c κs = found-small _ _ (c .before .before .before .before .before .before .before .before .before .before .before .before .before .pre) (c .before .before .before .before .layout .ensures) (c .find .ensures) _ (omega arith)
 
-returns : tie.Need-returns
-returns c =
-    let d = c .before .before .before .before .before .before in
-    c .unnamed .ensures
-    ∙ rw (d .total .ensures)
-    (sym (judged-whole _ _ (held-true _ _ (start d .pre) (sym (c .before .before .held-states .ensures) ∙ c .before .if1 .taken ∙ counted d))))
+add-conditions-in : tie.Need-add-conditions-in
+add-conditions-in c = omega (arith, found-few _ _ (c .before .before .before .before .before .before .before .before .before .before .before .before .before .before .before .pre) (c .before .before .before .before .before .before .layout .ensures) (c .before .before .find .ensures))
+
+conditions-in-requires-2 : tie.Need-conditions-in-requires-2
+conditions-in-requires-2 c κs = found-small _ _ (c .before .before .before .before .before .before .before .before .before .before .before .before .before .before .before .pre) (c .before .before .before .before .before .before .layout .ensures) (c .before .before .find .ensures) _ (omega arith)
 
 first-break-requires : tie.Need-first-break-requires
 first-break-requires c κs =
-    let d = c .before .before .before .before .before .before in
-    let h = c .before .before .held-states .ensures in
-    (known d, (counted d, (d .total .ensures, (h, omega (arith, c .before .if1 .left, held-most _ _ (start d .pre), h, counted d)))))
+    let d = c .before .before .before .before .before .before .before .before .before in (
+      known d,
+      (
+        counted d,
+        (
+          c .before .before .before .before .before .before .before .before .before .total .ensures,
+          found-begun _ _ (c .before .before .before .before .before .before .before .before .before .before .before .before .before .before .before .before .before .pre) (c .before .before .before .before .before .before .before .before .layout .ensures) (c .before .before .before .before .find .ensures) (c .before .before .before .conditions-in .ensures) (c .before .conditions-in2 .ensures),
+        ),
+      ),
+    )
 
-returns-2 : tie.Need-returns-2
-returns-2 c = search needs
+returns : tie.Need-returns
+returns c = search needs
 
 pub judge-spec : {M : Type 1} → statement M
 judge-spec =
@@ -94,9 +96,10 @@ judge-spec =
     node-places-requires
     transition-places-requires
     total-requires
-    held-states-requires
-    cast-unnamed
-    unnamed-requires
-    returns
+    layout-requires
+    find-requires
+    conditions-in-requires
+    add-conditions-in
+    conditions-in-requires-2
     first-break-requires
-    returns-2)
+    returns)

@@ -14,7 +14,8 @@ opening-holds-requires c κs = let p = c .before .before .before .pre in opening
 returns : tie.Need-returns
 returns c =
     let p = c .before .before .before .before .before .pre in
-    all-unopened (p .0) (p .1 .0) (p .1 .1 .0) (p .1 .1 .1) (c .before .before .before .held-nodes .ensures) (c .before .opening-holds .ensures) (not-true _ (c .if1 .taken))
+    all-unopened (p .0) (p .1 .0) (p .1 .1 .0) (p .1 .1 .1) (c .before .before .before .held-nodes .ensures) (c .before .opening-holds .ensures)
+    (not-true _ (c .if1 .taken))
 
 covers-hold-requires : tie.Need-covers-hold-requires
 covers-hold-requires c κs = let p = c .before .before .before .before .before .before .pre in covers-ask (p .0) (p .1 .0) (p .1 .1 .0) (p .1 .1 .1)
@@ -22,23 +23,30 @@ covers-hold-requires c κs = let p = c .before .before .before .before .before .
 returns-2 : tie.Need-returns-2
 returns-2 c =
     let p = c .before .before .before .before .before .before .before .before .pre in
-    all-uncovered (p .0) (p .1 .0) (p .1 .1 .0) (p .1 .1 .1) (c .before .before .before .before .before .before .held-nodes .ensures) (c .before .before .before .before .opening-holds .ensures) (not-false _ (c .before .before .before .if1 .left))
+    all-uncovered (p .0) (p .1 .0) (p .1 .1 .0) (p .1 .1 .1) (c .before .before .before .before .before .before .held-nodes .ensures)
+    (c .before .before .before .before .opening-holds .ensures) (not-false _ (c .before .before .before .if1 .left))
     (c .before .covers-hold .ensures) (not-true _ (c .if2 .taken))
 
 returns-3 : tie.Need-returns-3
 returns-3 c =
     let p = c .before .before .before .before .before .before .before .before .before .before .pre in
-    all-opened (p .0) (p .1 .0) (p .1 .1 .0) (p .1 .1 .1) (c .before .before .before .before .before .before .before .before .held-nodes .ensures) (c .before .before .before .before .before .before .opening-holds .ensures) (not-false _ (c .before .before .before .before .before .if1 .left))
+    all-opened (p .0) (p .1 .0) (p .1 .1 .0) (p .1 .1 .1) (c .before .before .before .before .before .before .before .before .held-nodes .ensures)
+    (c .before .before .before .before .before .before .opening-holds .ensures) (not-false _ (c .before .before .before .before .before .if1 .left))
     (c .before .before .before .covers-hold .ensures) (not-false _ (c .before .before .if2 .left)) (c .if3 .taken)
 
 transitions-hold-requires : tie.Need-transitions-hold-requires
-transitions-hold-requires c κs = let p = c .before .before .before .before .before .before .before .before .before .before .before .pre in transitions-ask (p .0) (p .1 .0) (p .1 .1 .0) (p .1 .1 .1)
+transitions-hold-requires c κs = let p = c .before .before .before .before .before .before .before .before .before .before .before .pre in
+    transitions-ask (p .0) (p .1 .0) (p .1 .1 .0) (p .1 .1 .1)
 
 returns-4 : tie.Need-returns-4
 returns-4 c =
     let p = c .before .before .before .before .before .before .before .before .before .before .before .before .pre in
-    all-moved (p .0) (p .1 .0) (p .1 .1 .0) (p .1 .1 .1) (c .before .before .before .before .before .before .before .before .before .before .held-nodes .ensures) (c .before .before .before .before .before .before .before .before .opening-holds .ensures) (not-false _ (c .before .before .before .before .before .before .before .if1 .left))
-    (c .before .before .before .before .before .covers-hold .ensures) (not-false _ (c .before .before .before .before .if2 .left)) (c .transitions-hold .ensures)
+    all-moved (p .0) (p .1 .0) (p .1 .1 .0) (p .1 .1 .1)
+    (c .before .before .before .before .before .before .before .before .before .before .held-nodes .ensures)
+    (c .before .before .before .before .before .before .before .before .opening-holds .ensures)
+    (not-false _ (c .before .before .before .before .before .before .before .if1 .left))
+    (c .before .before .before .before .before .covers-hold .ensures) (not-false _ (c .before .before .before .before .if2 .left))
+    (c .transitions-hold .ensures)
 
 pub all-hold-spec : {M : Type 1} → statement M
 all-hold-spec =

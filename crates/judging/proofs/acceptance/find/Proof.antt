@@ -66,7 +66,8 @@ held-blocks-requires c κs =
           doubles-are = c .before .before .before .before .before .before .before .before .double-marks .ensures;
         },
         (
-          pass-within _ _ (k .readable) (k .low-is) (k .high-is) (p .1 .0) (c .before .before .before .before .loop-test .taken) (c .before .before .before .before .before .loop .inv .0),
+          pass-within _ _ (k .readable) (k .low-is) (k .high-is) (p .1 .0) (c .before .before .before .before .loop-test .taken)
+              (c .before .before .before .before .before .loop .inv .0),
           rw (p .1 .1) (finding-most _ _ (c .before .before .before .before .before .loop .inv .1)),
         ),
       ),
@@ -74,7 +75,8 @@ held-blocks-requires c κs =
 
 add-n : tie.Need-add-n Inv-loop μ-loop
 unfolding statesOf
-add-n c = let p = c .before .before .before .before .before .before .before .before .before .before .before .before .before .before .before .pre in let m = states-within _ _ (p .0 .readable) .1 in omega (arith, p .1 .0, c .before .before .before .before .before .before .loop-test .taken)
+add-n c = let p = c .before .before .before .before .before .before .before .before .before .before .before .before .before .before .before .pre in
+    let m = states-within _ _ (p .0 .readable) .1 in omega (arith, p .1 .0, c .before .before .before .before .before .before .loop-test .taken)
 
 loop-less : tie.Need-loop-less Inv-loop μ-loop
 loop-less c = omega (arith, c .before .before .before .before .before .before .loop-test .taken)
@@ -84,8 +86,10 @@ loop-again c =
     let p = c .before .before .before .before .before .before .before .before .before .before .before .before .before .before .before .pre in
     let k = p .0 in
     let i = c .before .before .before .before .before .before .before .loop .inv in
-    let at = pass-state _ _ (k .readable) (k .low-is) (k .high-is) (p .1 .0) (c .before .before .before .before .before .before .loop-test .taken) (i .0) in (
-      pass-more _ _ (k .readable) (k .low-is) (k .high-is) (p .1 .0) (c .before .before .before .before .before .before .loop-test .taken) (i .0) refl (c .before .before .before .before .before .advance .ensures),
+    let at = pass-state _ _ (k .readable) (k .low-is) (k .high-is) (p .1 .0) (c .before .before .before .before .before .before .loop-test .taken)
+    (i .0) in (
+      pass-more _ _ (k .readable) (k .low-is) (k .high-is) (p .1 .0) (c .before .before .before .before .before .before .loop-test .taken) (i .0) refl
+          (c .before .before .before .before .before .advance .ensures),
       ⊎-elim (λ w. rw (w .1) (finding-less _ _ (i .1) (c .before .held-blocks .ensures) at (w .0 .taken)))
           (λ w. rw (w .1) (finding-same _ _ (i .1) (c .before .held-blocks .ensures) at (w .0 .left)))
           (c .if1 .came),

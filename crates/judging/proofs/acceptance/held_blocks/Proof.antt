@@ -8,7 +8,8 @@ use Rattle.judging.proofs.acceptance.held_blocks.Statement.{statement}
 use Rattle.judging.proofs.acceptance.held_blocks.Tie as tie
 
 abbrev Inv-loop : tie.InvT-loop
-Inv-loop file outline spans low high nodes transitions blocks premise places marks doubles most state held₀ held = Tried file outline state most held
+Inv-loop file outline spans low high nodes transitions blocks premise places marks doubles most state held₀ held =
+    Tried file outline state most held
 
 abbrev μ-loop : tie.MeasureT-loop
 μ-loop file outline spans low high nodes transitions blocks premise places marks doubles most state held₀ held = held
@@ -28,11 +29,20 @@ sub-end c = search needs
 all-hold-requires : tie.Need-all-hold-requires Inv-loop μ-loop
 all-hold-requires c κs =
     let p = c .before .before .before .before .pre in
-    let f = few (c .before .before .before .before) in
-    (p .0, (p .1 .0, (p .1 .1 .0, (omega (arith, c .before .loop-test .taken), omega (arith, f, p .1 .1 .1, c .before .before .loop .inv .few, c .before .loop-test .taken)))))
+    let f = few (c .before .before .before .before) in (
+      p .0,
+      (
+        p .1 .0,
+        (
+          p .1 .1 .0,
+          (omega (arith, c .before .loop-test .taken), omega (arith, f, p .1 .1 .1, c .before .before .loop .inv .few, c .before .loop-test .taken)),
+        ),
+      ),
+    )
 
 returns : tie.Need-returns Inv-loop μ-loop
-returns c = tried-all _ _ _ (c .before .before .before .before .loop .inv) _ (omega (arith, c .before .before .before .loop-test .taken)) (c .before .all-hold .ensures) (c .if1 .taken)
+returns c = tried-all _ _ _ (c .before .before .before .before .loop .inv) _ (omega (arith, c .before .before .before .loop-test .taken))
+    (c .before .all-hold .ensures) (c .if1 .taken)
 
 sub-held : tie.Need-sub-held Inv-loop μ-loop
 sub-held c = search needs
@@ -41,7 +51,8 @@ loop-less : tie.Need-loop-less Inv-loop μ-loop
 loop-less c = search needs
 
 loop-again : tie.Need-loop-again Inv-loop μ-loop
-loop-again c = tried-less _ _ _ (c .before .before .before .before .loop .inv) _ (omega (arith, c .before .before .before .loop-test .taken)) (c .before .all-hold .ensures) (c .if1 .left)
+loop-again c = tried-less _ _ _ (c .before .before .before .before .loop .inv) _ (omega (arith, c .before .before .before .loop-test .taken))
+    (c .before .all-hold .ensures) (c .if1 .left)
 
 returns-2 : tie.Need-returns-2 Inv-loop μ-loop
 returns-2 c = tried-none _ _ _ (c .before .loop .inv) (omega (arith, c .loop-test .left))

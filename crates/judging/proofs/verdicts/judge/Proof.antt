@@ -61,23 +61,32 @@ find-requires : tie.Need-find-requires
 find-requires c κs = let d = c .before .before .before .before in (known d, (counted d, c .before .before .before .layout .ensures))
 
 conditions-in-requires : tie.Need-conditions-in-requires
-conditions-in-requires c κs = found-small _ _ (c .before .before .before .before .before .before .before .before .before .before .before .before .before .pre) (c .before .before .before .before .layout .ensures) (c .find .ensures) _ (omega arith)
+conditions-in-requires c κs =
+    let l = c .before .before .before .before in
+    found-small _ _ (start (l .before) .pre) (l .layout .ensures) (c .find .ensures) _ (omega arith)
 
 add-conditions-in : tie.Need-add-conditions-in
-add-conditions-in c = omega (arith, found-few _ _ (c .before .before .before .before .before .before .before .before .before .before .before .before .before .before .before .pre) (c .before .before .before .before .before .before .layout .ensures) (c .before .before .find .ensures))
+add-conditions-in c =
+    let l = c .before .before .before .before .before .before in
+    omega (arith, found-few _ _ (start (l .before) .pre) (l .layout .ensures) (c .before .before .find .ensures))
 
 conditions-in-requires-2 : tie.Need-conditions-in-requires-2
-conditions-in-requires-2 c κs = found-small _ _ (c .before .before .before .before .before .before .before .before .before .before .before .before .before .before .before .pre) (c .before .before .before .before .before .before .layout .ensures) (c .before .before .find .ensures) _ (omega arith)
+conditions-in-requires-2 c κs =
+    let l = c .before .before .before .before .before .before in
+    found-small _ _ (start (l .before) .pre) (l .layout .ensures) (c .before .before .find .ensures) _ (omega arith)
 
 first-break-requires : tie.Need-first-break-requires
 first-break-requires c κs =
-    let d = c .before .before .before .before .before .before .before .before .before in (
+    let f = c .before .before .before .before in
+    let l = f .before .before .before .before in
+    let d = l .before in (
       known d,
       (
         counted d,
         (
-          c .before .before .before .before .before .before .before .before .before .total .ensures,
-          found-begun _ _ (c .before .before .before .before .before .before .before .before .before .before .before .before .before .before .before .before .before .pre) (c .before .before .before .before .before .before .before .before .layout .ensures) (c .before .before .before .before .find .ensures) (c .before .before .before .conditions-in .ensures) (c .before .conditions-in2 .ensures),
+          d .total .ensures,
+          found-begun _ _ (start d .pre) (l .layout .ensures) (f .find .ensures) (c .before .before .before .conditions-in .ensures)
+              (c .before .conditions-in2 .ensures),
         ),
       ),
     )

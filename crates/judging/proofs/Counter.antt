@@ -11,8 +11,8 @@ use Rattle.reading.specs.declared.Reading.{Reading}
 use Rattle.reading.specs.Edge.{justOf}
 use Rattle.reading.specs.Read.{readOf}
 use Rattle.reading.proofs.Files.{B, D, H}
-use Rattle.judging.specs.Diagram.{startHolds, pHolds, qHolds}
-use Rattle.judging.specs.Holding.{guardHolds, valuesFit, nextState}
+use Rattle.testing.specs.Diagram.{startHolds, pHolds, qHolds}
+use Rattle.testing.specs.Holding.{guardHolds, valuesFit, nextState}
 use Rattle.judging.specs.Verdict.{statesOf, stateAt, checkOf}
 
 -- the state where v is n

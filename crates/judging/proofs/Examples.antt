@@ -27,17 +27,19 @@ use Rattle.evaluating.specs.Expression
 use Rattle.evaluating.specs.State
 use Rattle.evaluating.specs.Number
 use Rattle.evaluating.specs.Transition
-use Rattle.judging.specs.Search as First
-use Rattle.judging.specs.Diagram
-use Rattle.judging.specs.Condition
-use Rattle.judging.specs.Condition.{conditionsOf}
-use Rattle.judging.specs.Holding
+use Rattle.conditions.specs.Search as First
+use Rattle.conditions.specs.Edges
+use Rattle.testing.specs.Diagram
+use Rattle.conditions.specs.Condition
+use Rattle.conditions.specs.Condition.{conditionsOf}
+use Rattle.runs.specs.Truth
+use Rattle.testing.specs.Holding
 use Rattle.judging.specs.Verdict
 use Rattle.judging.specs.Verdict.{checkOf, singleOf}
 use Rattle.judging.specs.Report
 use Rattle.judging.specs.Report.{reportOf}
-use Rattle.judging.specs.declared.conditions.Condition.{Condition}
-use Rattle.judging.specs.declared.conditions.Condition.the-variants.{Start, Entry, Cover, Range, Step, Enabling}
+use Rattle.conditions.specs.declared.Condition.{Condition}
+use Rattle.conditions.specs.declared.Condition.the-variants.{Start, Entry, Cover, Range, Step, Enabling}
 use Rattle.judging.specs.declared.verdicts.Single.{Single}
 use Rattle.judging.proofs.Counter.{Computed}
 
@@ -162,10 +164,10 @@ unfolding flatten Bytes.signed16 Bytes.lowByte Bytes.highByte Ends.minZ Ends.max
     Transition.behind Transition.assignmentAt Transition.assignmentsFrom Transition.inRangeOf Transition.allInRange Transition.assigned
     Transition.guardOf Transition.assignmentsOf Transition.enabledOf Transition.successorOf
     First.firstFrom First.first
-    Diagram.startHolds Diagram.nodeAt Diagram.nodeHolds Diagram.claimedAt Diagram.pHolds Diagram.qAt Diagram.qHolds Diagram.carries Diagram.isDouble
+    Diagram.startHolds Diagram.nodeAt Diagram.nodeHolds Diagram.claimedAt Diagram.pHolds Diagram.qAt Diagram.qHolds Edges.carries Edges.isDouble
     Condition.each Condition.movesOf Condition.conditionsFrom Condition.conditionsOf Condition.totalOf Condition.conditionAt
     Condition.refusalNumber Condition.nodeNumber Condition.transitionNumber
-    Holding.implies Holding.guardHolds Holding.valuesFit Holding.isEnabled Holding.nextState
+    Truth.implies Holding.guardHolds Holding.valuesFit Holding.isEnabled Holding.nextState
     Holding.someNode Holding.someTarget Holding.conditionHolds
     Verdict.statesOf Verdict.stateAt Verdict.unnamedOf Verdict.namedOf Verdict.breakingOf Verdict.isTrue Verdict.brokenOf Verdict.judgedOf
     Verdict.verdictBy Verdict.checkOf Verdict.testedOf Verdict.singleBy Verdict.singleOf

@@ -16,12 +16,12 @@ use lib.IntN.{ℤ}
 use Rattle.parsing.specs.declared.outline.Outline.{Outline}
 use Rattle.evaluating.specs.State.{State}
 use Rattle.evaluating.proofs.Laws.Readable as readable
-use Rattle.judging.specs.Diagram.{startHolds, pHolds, qHolds}
+use Rattle.testing.specs.Diagram.{startHolds, pHolds, qHolds}
 use Rattle.judging.specs.Verdict.{statesOf, stateAt, checkOf}
-use Rattle.judging.specs.Run.{Run, finite, endless, Position, at, Step, IsRun, DisabledOrTaken, Just, KJust}
-use Rattle.judging.specs.Claim.{Waiting}
+use Rattle.runs.specs.Run.{Run, finite, endless, Position, at, Step, IsRun, DisabledOrTaken, Just, KJust}
+use Rattle.runs.specs.Claim.{Waiting}
 use Rattle.judging.specs.System.{systemOf}
-use Rattle.judging.proofs.Laws.Truth.{so-true}
+use Rattle.runs.proofs.Laws.Truth.{so-true}
 use Rattle.judging.proofs.Counter.{v, Counter, b, oB, d, oD, h, oH}
 use Rattle.judging.proofs.Examples.{computed}
 

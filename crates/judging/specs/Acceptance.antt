@@ -8,7 +8,7 @@ use lib.ListN.{getD}
 use lib.Dec.{eqb, ltb}
 use lib.IntN.{ℤ}
 use Rattle.parsing.specs.declared.outline.Outline.{Outline}
-use Rattle.parsing.specs.Record.{fieldA, fieldB, fieldC}
+use Rattle.parsing.specs.Record.{fieldC}
 use Rattle.parsing.specs.Kind.{truth as truthSort}
 use Rattle.parsing.specs.Place.{tabulate}
 use Rattle.parsing.specs.Search.{any}
@@ -19,17 +19,19 @@ use Rattle.evaluating.specs.declared.transitions.Stepped.{Stepped}
 use Rattle.evaluating.specs.Expression.{partAt, holdsOf, Fits, Spans}
 use Rattle.evaluating.specs.State.{lowsOf, highsOf, Within}
 use Rattle.evaluating.specs.Transition.{stepOf, TransitionFits}
-use Rattle.judging.specs.Diagram.{claimedAt, qAt}
-use Rattle.judging.specs.Condition.{each, movesOf, totalOf, conditionAt}
-use Rattle.judging.specs.Holding.{implies, conditionHolds}
-use Rattle.judging.specs.Layout.{openingOf, layoutOf}
-use Rattle.judging.specs.Testing.{nodesOf, transitionsOf}
-use Rattle.judging.specs.Search.{first}
+use Rattle.testing.specs.Diagram.{claimedAt, qAt}
+use Rattle.conditions.specs.Condition.{each, movesOf, totalOf, conditionAt}
+use Rattle.runs.specs.Truth.{implies}
+use Rattle.testing.specs.Holding.{conditionHolds}
+use Rattle.conditions.specs.Layout.{openingOf, layoutOf}
+use Rattle.testing.specs.Testing.{nodesOf, transitionsOf}
+use Rattle.conditions.specs.Search.{first}
 use Rattle.judging.specs.Verdict.{statesOf, stateAt, isTrue}
 use Rattle.judging.specs.declared.acceptance.Found.{Found}
-use Rattle.judging.specs.declared.conditions.Blocks.{Blocks}
-use Rattle.judging.specs.declared.conditions.Condition.{Condition}
-use Rattle.judging.specs.declared.conditions.Condition.the-variants.{Cover}
+use Rattle.conditions.specs.declared.Blocks.{Blocks}
+use Rattle.conditions.specs.declared.Condition.{Condition}
+use Rattle.conditions.specs.declared.Condition.the-variants.{Cover}
+use Rattle.conditions.specs.Edges.{pairAt}
 
 -- the n numbers from `at` on pass the test
 unfoldable pub every : (ℕ → Bool) → ℕ → ℕ → Bool
@@ -74,10 +76,6 @@ conditionsIn blocks zero = 0
 conditionsIn blocks (suc i) = 1 + blocks .covers + i * blocks .size
 
 -- ---- tables
--- the pair of an edge: its node and its transition, each below 32, in one number
-unfoldable pub pairAt : List ℕ → ℕ → ℕ
-pairAt file e = 32 * fieldB file e + fieldA file e
-
 -- entry 32 * p + n: an edge of pair p leads to node n
 unfoldable pub edgeMarksOf : List ℕ → Outline → List Bool
 edgeMarksOf file o = tabulate (λ i. any (λ e. eqb (32 * pairAt file e + fieldC file e) i) (o .edges) (o .edge)) 32768 0

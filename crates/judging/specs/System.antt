@@ -9,10 +9,10 @@ use Rattle.reading.specs.declared.Reading.{Reading}
 use Rattle.reading.specs.Edge.{diagram, justOf}
 use Rattle.reading.specs.Read.{readOf}
 use Rattle.evaluating.specs.State.{State}
-use Rattle.judging.specs.Diagram.{startHolds, nodeHolds, pHolds, qHolds}
-use Rattle.judging.specs.Holding.{guardHolds, valuesFit, nextState}
-use Rattle.judging.specs.Run.{System}
-use Rattle.judging.specs.Claim.{Invariance, WaitFor, Chain, InRange}
+use Rattle.testing.specs.Diagram.{startHolds, nodeHolds, pHolds, qHolds}
+use Rattle.testing.specs.Holding.{guardHolds, valuesFit, nextState}
+use Rattle.runs.specs.Run.{System}
+use Rattle.runs.specs.Claim.{Invariance, WaitFor, Chain, InRange}
 
 abbrev pub systemOf : List ℕ → Outline → System
 systemOf file o =

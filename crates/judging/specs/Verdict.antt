@@ -10,10 +10,10 @@ use Rattle.reading.specs.declared.Reading.{Reading}
 use Rattle.reading.specs.Read.{readOf}
 use Rattle.evaluating.specs.State.{lowsOf, highsOf}
 use Rattle.evaluating.specs.Number.{countOf, stateOf}
-use Rattle.judging.specs.Search.{first}
-use Rattle.judging.specs.Condition.{totalOf, conditionAt, refusalNumber, nodeNumber, transitionNumber}
-use Rattle.judging.specs.Holding.{conditionHolds}
-use Rattle.judging.specs.declared.conditions.Condition.{Condition}
+use Rattle.conditions.specs.Search.{first}
+use Rattle.conditions.specs.Condition.{totalOf, conditionAt, refusalNumber, nodeNumber, transitionNumber}
+use Rattle.testing.specs.Holding.{conditionHolds}
+use Rattle.conditions.specs.declared.Condition.{Condition}
 use Rattle.judging.specs.declared.report.Verdict.{Verdict}
 use Rattle.judging.specs.declared.verdicts.Single.{Single}
 

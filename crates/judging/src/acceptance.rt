@@ -1,8 +1,6 @@
 // The conditions that are true, in one pass over the states: what several conditions speak of at a state, a node's assertion or a transition's step, is
 // worked out once for all of them.
-use crate::conditions::Blocks;
-use crate::testing::claimed_at;
-use crate::testing::q_at;
+use conditions::Blocks;
 use evaluating::expressions::holds;
 use evaluating::states::advance;
 use evaluating::transitions::Stepped;
@@ -10,6 +8,8 @@ use evaluating::transitions::step;
 use parsing::outline::Outline;
 use parsing::records::byte_at;
 use parsing::records::word_at;
+use testing::claimed_at;
+use testing::q_at;
 ghost use mathlib.Core.Path.{_≡_};
 ghost use Prim.Native.Nat.{_+_, _-_, _*_, _≤_, _<_};
 ghost use lib.ListN.{length, getD};
@@ -18,9 +18,10 @@ ghost use Rattle.reading.specs.Read.{readOf};
 ghost use Rattle.parsing.specs.Kind.{truth as truthSort};
 ghost use Rattle.evaluating.specs.Expression.{partAt, Fits, Spans};
 ghost use Rattle.evaluating.specs.State.{Within, State};
-ghost use Rattle.judging.specs.Layout.{layoutOf};
+ghost use Rattle.conditions.specs.Layout.{layoutOf};
 ghost use Rattle.judging.specs.Verdict.{statesOf};
-ghost use Rattle.judging.specs.Acceptance.{pairAt, edgeMarksOf, doubleMarksOf, qPlacesOf, openingAt, heldNodesOf, openingHolds, coversHold};
+ghost use Rattle.conditions.specs.Edges.{pairAt};
+ghost use Rattle.judging.specs.Acceptance.{edgeMarksOf, doubleMarksOf, qPlacesOf, openingAt, heldNodesOf, openingHolds, coversHold};
 ghost use Rattle.judging.specs.Acceptance.{reachedOf, pairHolds, nodesHold, transitionsHold, every, blockHolds, heldBlocksOf, foundOf, conditionsIn};
 ghost use Rattle.judging.specs.Acceptance.{NodesFit, PlacesFit, PassFits, LookedUp, Tables};
 

@@ -27,9 +27,7 @@ ghost use Rattle.judging.specs.Report.{reportOf};
 ghost use Rattle.judging.specs.System.{Claim};
 
 pub mod acceptance;
-pub mod conditions;
 pub mod report;
-pub mod testing;
 pub mod verdicts;
 
 // Checks a file: 0 and the total of its conditions where all of them are true, so that what the file claims is true of every run; else the refusal

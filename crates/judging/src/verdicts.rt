@@ -1,13 +1,11 @@
 // The verdict on a file: the lowest broken condition with the lowest state that breaks it; and what a single test answers.
 use crate::acceptance::conditions_in;
 use crate::acceptance::find;
-use crate::conditions::Condition;
-use crate::conditions::condition_at;
-use crate::conditions::layout;
-use crate::conditions::total;
 use crate::report::Verdict;
-use crate::testing::concludes;
-use crate::testing::test_of;
+use conditions::Condition;
+use conditions::condition_at;
+use conditions::layout;
+use conditions::total;
 use evaluating::expressions::holds;
 use evaluating::spans::spans_of;
 use evaluating::states::advance;
@@ -20,11 +18,13 @@ use parsing::sections::node_places;
 use parsing::sections::transition_places;
 use reading::Reading;
 use reading::read;
+use testing::concludes;
+use testing::test_of;
 ghost use mathlib.Core.Path.{_≡_};
 ghost use Prim.Native.Nat.{_≤_};
 ghost use Rattle.reading.specs.declared.Reading.{Reading};
 ghost use Rattle.reading.specs.Read.{readOf};
-ghost use Rattle.judging.specs.Condition.{totalOf, nodeNumber, transitionNumber};
+ghost use Rattle.conditions.specs.Condition.{totalOf, nodeNumber, transitionNumber};
 ghost use Rattle.judging.specs.Verdict.{statesOf, unnamedOf, namedOf, judgedOf, verdictBy};
 ghost use Rattle.judging.specs.Acceptance.{LookedUp, Begun};
 

@@ -30,24 +30,27 @@ use Rattle.evaluating.specs.Expression.{partAt, holdsOf, Fits}
 use Rattle.evaluating.specs.State.{lowsOf, highsOf, State}
 use Rattle.evaluating.specs.Transition.{guardOf, assignmentsOf, allInRange, enabledOf, successorOf, stepOf}
 use Rattle.evaluating.proofs.Laws.Readable as evaluable
-use Rattle.judging.specs.Diagram.{nodeHolds, startHolds, claimedAt, pHolds, qAt, qHolds, carries, isDouble}
-use Rattle.judging.specs.Condition.{each, movesOf, totalOf, conditionAt}
-use Rattle.judging.specs.Holding.{implies, guardHolds, valuesFit, isEnabled, nextState, someNode, someTarget, conditionHolds}
-use Rattle.judging.specs.Layout.{openingOf, layoutOf}
-use Rattle.judging.specs.Testing.{nodesOf, transitionsOf}
-use Rattle.judging.specs.Search.{first}
+use Rattle.conditions.specs.Edges.{carries, isDouble}
+use Rattle.testing.specs.Diagram.{nodeHolds, startHolds, claimedAt, pHolds, qAt, qHolds}
+use Rattle.conditions.specs.Condition.{each, movesOf, totalOf, conditionAt}
+use Rattle.runs.specs.Truth.{implies}
+use Rattle.testing.specs.Holding.{guardHolds, valuesFit, isEnabled, nextState, someNode, someTarget, conditionHolds}
+use Rattle.conditions.specs.Layout.{openingOf, layoutOf}
+use Rattle.testing.specs.Testing.{nodesOf, transitionsOf}
+use Rattle.conditions.specs.Search.{first}
 use Rattle.judging.specs.Verdict.{statesOf, stateAt, isTrue}
-use Rattle.judging.specs.Acceptance.{every, allHold, blockOf, blockHolds, trueBlocksOf, heldStatesOf, conditionsIn, pairAt, edgeMarksOf, doubleMarksOf, qPlacesOf, openingAt, heldNodesOf}
+use Rattle.conditions.specs.Edges.{pairAt}
+use Rattle.judging.specs.Acceptance.{every, allHold, blockOf, blockHolds, trueBlocksOf, heldStatesOf, conditionsIn, edgeMarksOf, doubleMarksOf, qPlacesOf, openingAt, heldNodesOf}
 use Rattle.judging.specs.Acceptance.{openingHolds, coversHold, reachedOf, pairHolds, nodesHold, transitionsHold}
 use Rattle.judging.specs.Acceptance.{NodesFit, PlacesFit, PassFits, Searched, Begun}
-use Rattle.judging.specs.declared.conditions.Condition.{Condition}
-use Rattle.judging.specs.declared.conditions.Condition.the-variants.{Start, Entry, Cover, Enabling}
-use Rattle.judging.proofs.Laws.Each.{tabulate-at, in-each}
-use Rattle.judging.proofs.Laws.Search.{first-most, first-passes, first-fails, any-same}
+use Rattle.conditions.specs.declared.Condition.{Condition}
+use Rattle.conditions.specs.declared.Condition.the-variants.{Start, Entry, Cover, Enabling}
+use Rattle.conditions.proofs.Laws.Each.{tabulate-at, in-each}
+use Rattle.conditions.proofs.Laws.Search.{first-most, first-passes, first-fails, any-same}
 use Rattle.judging.proofs.Laws.Every.{every-at, every-first, every-same, every-swap}
-use Rattle.judging.proofs.Laws.Condition.{layout-bounds, cover-parts, total-is, condition-opening, condition-cover, condition-move, condition-node}
-use Rattle.judging.proofs.Laws.Targets.{marked-some, node-at, transition-at, node-small, first-claimed}
-use Rattle.judging.proofs.Laws.Testing.{node-fits, claimed-fits, q-fits, transition-fits}
+use Rattle.conditions.proofs.Laws.Condition.{layout-bounds, cover-parts, total-is, condition-opening, condition-cover, condition-move, condition-node}
+use Rattle.testing.proofs.Laws.Targets.{marked-some, node-at, transition-at, node-small, first-claimed}
+use Rattle.testing.proofs.Laws.Testing.{node-fits, claimed-fits, q-fits, transition-fits}
 use Rattle.judging.proofs.Laws.Verdict.{true-at}
 
 -- ---- truths

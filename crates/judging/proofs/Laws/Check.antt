@@ -20,11 +20,11 @@ use Rattle.reading.specs.declared.Reading.{Reading}
 use Rattle.reading.specs.Read.{readOf}
 use Rattle.reading.proofs.Laws.Refusal.{read-refuses}
 use Rattle.evaluating.proofs.Laws.State.{within-length, ends-length}
-use Rattle.judging.specs.Condition.{Listed}
+use Rattle.conditions.specs.Condition.{Listed}
 use Rattle.judging.specs.Verdict.{unnamedOf, judgedOf, verdictBy, checkOf}
 use Rattle.judging.specs.Report.{reportOf}
 use Rattle.judging.specs.System.{Claim}
-use Rattle.judging.specs.declared.conditions.Condition.{Condition}
+use Rattle.conditions.specs.declared.Condition.{Condition}
 use Rattle.judging.specs.declared.report.Verdict.{Verdict}
 use Rattle.judging.proofs.Laws.Verdict.{Everywhere, accepted, accepts, Names, refused}
 use Rattle.judging.proofs.Laws.Report.{report-rest}

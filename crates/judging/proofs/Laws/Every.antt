@@ -13,9 +13,9 @@ use Prim.Native.Nat.{ℕ, zero, suc, _+_, _≤_, _<_}
 use native.Mathlib.Decide.{decLt}
 use native.Mathlib.Omega.{arith}
 use Rattle.parsing.specs.Search.{any}
-use Rattle.judging.specs.Search.{first}
+use Rattle.conditions.specs.Search.{first}
 use Rattle.judging.specs.Acceptance.{every}
-use Rattle.judging.proofs.Laws.Search.{first-passes}
+use Rattle.conditions.proofs.Laws.Search.{first-passes}
 
 module _ (test : ℕ → Bool) where
   pub every-true : (n at : ℕ) → ((k : ℕ) → at ≤ k → k < at + n → test k ≡ true) → every test n at ≡ true

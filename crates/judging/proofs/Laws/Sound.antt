@@ -21,23 +21,24 @@ use Rattle.reading.specs.Readable.{DoubleTransition}
 use Rattle.reading.proofs.Laws.Readable as readable
 use Rattle.evaluating.specs.State.{State}
 use Rattle.evaluating.specs.Transition.{enabledOf}
-use Rattle.judging.specs.Diagram.{nodeHolds, pHolds, qAt, qHolds, startHolds, carries, isDouble}
-use Rattle.judging.specs.Condition.{conditionsFrom, Listed}
-use Rattle.judging.specs.Holding.{guardHolds, valuesFit, isEnabled, nextState, someNode, someTarget, conditionHolds}
-use Rattle.judging.specs.Run.{Successor}
+use Rattle.conditions.specs.Edges.{carries, isDouble}
+use Rattle.testing.specs.Diagram.{nodeHolds, pHolds, qAt, qHolds, startHolds}
+use Rattle.conditions.specs.Condition.{conditionsFrom, Listed}
+use Rattle.testing.specs.Holding.{guardHolds, valuesFit, isEnabled, nextState, someNode, someTarget, conditionHolds}
+use Rattle.runs.specs.Run.{Successor}
 use Rattle.judging.specs.System.{systemOf, Claimed}
-use Rattle.judging.specs.Layout.{doubleOf}
-use Rattle.judging.specs.declared.conditions.Condition.{Condition}
-use Rattle.judging.specs.declared.conditions.Condition.the-variants.{Start, Entry, Cover, Range, Step, Enabling}
-use Rattle.judging.proofs.Laws.Search.{any-at}
-use Rattle.judging.proofs.Laws.Truth.{is-true, so-true, implied, both, left, right, either}
-use Rattle.judging.proofs.Laws.Double.{double-is}
-use Rattle.judging.proofs.Laws.Listed.{invariance-lists, waiting-lists, chain-lists, opening-in, cover-in, range-in, step-in, enabling-in}
-use Rattle.judging.proofs.Laws.Diagram.{SomeNode, Diagram, Target, RangeAt, StepAt, ChainStepAt, Entered, Covered, EnabledAt}
-use Rattle.judging.proofs.Laws.Diagram.{InvarianceConditions, WaitForConditions, ChainConditions}
-use Rattle.judging.proofs.Laws.Invariance.{invariance, invariance-in-range}
-use Rattle.judging.proofs.Laws.WaitFor.{wait-for, wait-for-in-range}
-use Rattle.judging.proofs.Laws.Chain.{chain, chain-in-range}
+use Rattle.conditions.specs.Layout.{doubleOf}
+use Rattle.conditions.specs.declared.Condition.{Condition}
+use Rattle.conditions.specs.declared.Condition.the-variants.{Start, Entry, Cover, Range, Step, Enabling}
+use Rattle.conditions.proofs.Laws.Search.{any-at}
+use Rattle.runs.proofs.Laws.Truth.{is-true, so-true, implied, both, left, right, either}
+use Rattle.conditions.proofs.Laws.Double.{double-is}
+use Rattle.conditions.proofs.Laws.Listed.{invariance-lists, waiting-lists, chain-lists, opening-in, cover-in, range-in, step-in, enabling-in}
+use Rattle.runs.proofs.Laws.Diagram.{SomeNode, Diagram, Target, RangeAt, StepAt, ChainStepAt, Entered, Covered, EnabledAt}
+use Rattle.runs.proofs.Laws.Diagram.{InvarianceConditions, WaitForConditions, ChainConditions}
+use Rattle.runs.proofs.Laws.Invariance.{invariance, invariance-in-range}
+use Rattle.runs.proofs.Laws.WaitFor.{wait-for, wait-for-in-range}
+use Rattle.runs.proofs.Laws.Chain.{chain, chain-in-range}
 
 -- an edge of the file, of transition t from node i to node j
 record EdgeOf (file : List ℕ) (o : Outline) (t i j : ℕ) : Type 0 where

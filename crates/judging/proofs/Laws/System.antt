@@ -17,10 +17,10 @@ use Rattle.reading.specs.Read.{readOf}
 use Rattle.evaluating.specs.State.{State}
 use Rattle.evaluating.specs.Transition.{enabledOf}
 use Rattle.evaluating.proofs.Laws.Readable as readable
-use Rattle.judging.specs.Holding.{guardHolds, valuesFit, nextState}
-use Rattle.judging.specs.Run.{finite, Position, at, enabled, Step, IsRun}
+use Rattle.testing.specs.Holding.{guardHolds, valuesFit, nextState}
+use Rattle.runs.specs.Run.{finite, Position, at, enabled, Step, IsRun}
 use Rattle.judging.specs.System.{systemOf}
-use Rattle.judging.proofs.Laws.Truth.{is-true}
+use Rattle.runs.proofs.Laws.Truth.{is-true}
 
 module _ (file : List ℕ) (o : Outline) (r : readOf file ≡ Reading.Readable o) (s : List ℤ) (w : State file (o .vars) s) where
   pub state-run : IsRun (systemOf file o) (finite s [])

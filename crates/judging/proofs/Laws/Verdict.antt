@@ -21,15 +21,15 @@ use Rattle.reading.specs.Read.{readOf}
 use Rattle.evaluating.specs.State.{lowsOf, highsOf, State}
 use Rattle.evaluating.specs.Number.{numberOf}
 use Rattle.evaluating.proofs.Laws.Readable.{numbered, number}
-use Rattle.judging.specs.Condition.{conditionsOf, totalOf, conditionAt, Listed, refusalNumber, nodeNumber, transitionNumber}
-use Rattle.judging.specs.Holding.{conditionHolds}
+use Rattle.conditions.specs.Condition.{conditionsOf, totalOf, conditionAt, Listed, refusalNumber, nodeNumber, transitionNumber}
+use Rattle.testing.specs.Holding.{conditionHolds}
 use Rattle.judging.specs.Verdict.{statesOf, stateAt, unnamedOf, namedOf, breakingOf, isTrue, brokenOf, judgedOf}
-use Rattle.judging.specs.declared.conditions.Condition.{Condition}
-use Rattle.judging.specs.declared.conditions.Condition.the-variants.{Start, Entry, Cover, Range, Step, Enabling}
+use Rattle.conditions.specs.declared.Condition.{Condition}
+use Rattle.conditions.specs.declared.Condition.the-variants.{Start, Entry, Cover, Range, Step, Enabling}
 use Rattle.judging.specs.declared.report.Verdict.{Verdict}
-use Rattle.judging.proofs.Laws.Each.{At, member-at}
-use Rattle.judging.proofs.Laws.Search.{first-is, first-passes, first-fails}
-use Rattle.judging.proofs.Laws.Condition.{condition-listed}
+use Rattle.conditions.proofs.Laws.Each.{At, member-at}
+use Rattle.conditions.proofs.Laws.Search.{first-is, first-passes, first-fails}
+use Rattle.conditions.proofs.Laws.Condition.{condition-listed}
 
 refusal-above : (c : Condition) → 13 ≤ refusalNumber c
 unfolding refusalNumber

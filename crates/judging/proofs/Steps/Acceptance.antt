@@ -11,7 +11,7 @@ use lib.ListN.{getD, set, length, replicate, length-set}
 use lib.Seq.{getD-set-same, getD-set-other, ext-getD}
 use Rattle.parsing.specs.Place.{tabulate}
 use Rattle.parsing.proofs.Laws.Place.{length-tabulate}
-use Rattle.judging.proofs.Laws.Each.{tabulate-at}
+use Rattle.conditions.proofs.Laws.Each.{tabulate-at}
 
 module _ {A : Type 0} (f : ℕ → A) (z : A) where
   abbrev entry : ℕ → ℕ → A

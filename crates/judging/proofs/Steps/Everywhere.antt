@@ -17,16 +17,16 @@ use Rattle.reading.specs.Read.{readOf}
 use Rattle.reading.proofs.Laws.Readable.{nodes-within}
 use Rattle.evaluating.specs.Expression.{partAt, Fits, Spans}
 use Rattle.evaluating.specs.State.{State, Within}
-use Rattle.judging.specs.Layout.{layoutOf}
-use Rattle.judging.specs.Search.{first}
+use Rattle.conditions.specs.Layout.{layoutOf}
+use Rattle.conditions.specs.Search.{first}
 use Rattle.judging.specs.Verdict.{statesOf, stateAt}
 use Rattle.judging.specs.Acceptance.{every, blockHolds, heldBlocksOf, trueBlocksOf, heldStatesOf, foundOf, conditionsIn, heldNodesOf}
 use Rattle.judging.specs.Acceptance.{openingHolds, coversHold, nodesHold, transitionsHold}
 use Rattle.judging.specs.Acceptance.{NodesFit, PlacesFit, PassFits, LookedUp, Tables, Begun}
 use Rattle.judging.specs.declared.acceptance.Found.{Found}
-use Rattle.judging.specs.declared.conditions.Blocks.{Blocks}
-use Rattle.judging.proofs.Laws.Condition.{layout-bounds}
-use Rattle.judging.proofs.Laws.Search.{first-is, first-most, first-passes, first-fails, first-same, first-both}
+use Rattle.conditions.specs.declared.Blocks.{Blocks}
+use Rattle.conditions.proofs.Laws.Condition.{layout-bounds}
+use Rattle.conditions.proofs.Laws.Search.{first-is, first-most, first-passes, first-fails, first-same, first-both}
 use Rattle.judging.proofs.Laws.Every.{every-true, every-at, every-last}
 use Rattle.judging.proofs.Laws.Acceptance.{blocks-most, blocks-small, blocks-begun, blocks-parts, opening-fits, nodes-fit, places-fit, pass-fits}
 

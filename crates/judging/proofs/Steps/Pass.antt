@@ -13,11 +13,11 @@ use Rattle.evaluating.specs.declared.transitions.Stepped.{Stepped}
 use Rattle.evaluating.specs.Expression.{holdsOf}
 use Rattle.evaluating.specs.State.{Within}
 use Rattle.evaluating.specs.Transition.{stepOf}
-use Rattle.judging.specs.Holding.{implies}
+use Rattle.runs.specs.Truth.{implies}
 use Rattle.judging.specs.Acceptance.{every, reachedOf, pairHolds}
 use Rattle.judging.proofs.Laws.Every.{every-true, every-false, none-passes}
-use Rattle.judging.proofs.Laws.Search.{any-at}
-use Rattle.judging.proofs.Steps.Testing.{next-within}
+use Rattle.conditions.proofs.Laws.Search.{any-at}
+use Rattle.testing.proofs.Steps.Testing.{next-within}
 
 -- ---- the numbers passed
 -- of the n numbers from `at` up to `end`, those below i answer so

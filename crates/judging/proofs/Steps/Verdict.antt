@@ -22,17 +22,17 @@ use Rattle.evaluating.specs.Number.{countOf, stateOf, advanceOf}
 use Rattle.evaluating.proofs.Laws.Span.{spans-right}
 use Rattle.evaluating.proofs.Laws.State.{states-idle}
 use Rattle.evaluating.proofs.Laws.Readable.{ranges, states-within, numbered, first, next}
-use Rattle.judging.specs.Condition.{totalOf, conditionAt, Listed, nodeNumber, transitionNumber}
-use Rattle.judging.specs.Holding.{conditionHolds}
-use Rattle.judging.specs.Testing.{nodesOf, transitionsOf, testOf, passesOf, TestFits}
+use Rattle.conditions.specs.Condition.{totalOf, conditionAt, Listed, nodeNumber, transitionNumber}
+use Rattle.testing.specs.Holding.{conditionHolds}
+use Rattle.testing.specs.Testing.{nodesOf, transitionsOf, testOf, passesOf, TestFits}
 use Rattle.judging.specs.Verdict.{statesOf, stateAt, unnamedOf, namedOf, judgedOf, testedOf}
 use Rattle.judging.specs.Acceptance.{LookedUp, Searched, Begun}
-use Rattle.judging.specs.declared.conditions.Condition.{Condition}
-use Rattle.judging.specs.declared.conditions.Condition.the-variants.{Start, Entry, Cover, Range, Step, Enabling}
-use Rattle.judging.specs.declared.testing.Test.{Test}
+use Rattle.conditions.specs.declared.Condition.{Condition}
+use Rattle.conditions.specs.declared.Condition.the-variants.{Start, Entry, Cover, Range, Step, Enabling}
+use Rattle.testing.specs.declared.Test.{Test}
 use Rattle.judging.specs.declared.verdicts.Single.{Single}
-use Rattle.judging.proofs.Laws.Condition.{Parts, condition-listed, listed-parts, total-most}
-use Rattle.judging.proofs.Laws.Testing.{prepared, test-fits}
+use Rattle.conditions.proofs.Laws.Condition.{Parts, condition-listed, listed-parts, total-most}
+use Rattle.testing.proofs.Laws.Testing.{prepared, test-fits}
 use Rattle.judging.proofs.Laws.Verdict.{true-at, judged-broken, judged-whole}
 
 pub count-is : (file : List ℕ) (o : Outline) {low high : List ℤ} {states : ℕ} → low ≡ lowsOf file (o .vars) → high ≡ highsOf file (o .vars)

@@ -4,7 +4,7 @@ use mathlib.Core.Path.{_≡_, sym}
 use mathlib.Core.Bool.{cond}
 use native.Mathlib.Omega.{arith}
 use Rattle.reading.proofs.Laws.Readable.{small, variables-within}
-use Rattle.judging.specs.Testing.{nodesOf, transitionsOf}
+use Rattle.testing.specs.Testing.{nodesOf, transitionsOf}
 use Rattle.judging.specs.Verdict.{testedOf}
 use Rattle.judging.specs.declared.verdicts.Single.{Single}
 use Rattle.judging.proofs.Steps.Verdict.{count-is, count-asks, spans-serve, nodes-ask, transitions-ask, Ready, test-asks, state-asks}

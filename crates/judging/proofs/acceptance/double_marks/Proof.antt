@@ -8,8 +8,9 @@ use native.Mathlib.Omega.{arith}
 use borrow.Author.Tests.{eq-eqb, ne-eqb}
 use borrow.Author.Needs.{needs}
 use Rattle.reading.specs.Edge.{double}
-use Rattle.judging.specs.Acceptance.{pairAt, doubleMarksOf}
-use Rattle.judging.proofs.Steps.Testing.{edge-here, Marked, marked-none, marked-end, marked-hit, marked-miss}
+use Rattle.conditions.specs.Edges.{pairAt}
+use Rattle.judging.specs.Acceptance.{doubleMarksOf}
+use Rattle.testing.proofs.Steps.Testing.{edge-here, Marked, marked-none, marked-end, marked-hit, marked-miss}
 use Rattle.judging.proofs.acceptance.double_marks.Statement.{statement}
 use Rattle.judging.proofs.acceptance.double_marks.Tie as tie
 

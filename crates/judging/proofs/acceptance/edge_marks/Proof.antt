@@ -5,8 +5,9 @@ use mathlib.Core.Bool.{true, false}
 use Prim.Native.Nat.{_+_, _*_, _-_}
 use native.Mathlib.Omega.{arith}
 use Rattle.parsing.specs.Record.{fieldC}
-use Rattle.judging.specs.Acceptance.{pairAt, edgeMarksOf}
-use Rattle.judging.proofs.Steps.Testing.{edge-here, Marked, marked-none, marked-end, marked-hit}
+use Rattle.conditions.specs.Edges.{pairAt}
+use Rattle.judging.specs.Acceptance.{edgeMarksOf}
+use Rattle.testing.proofs.Steps.Testing.{edge-here, Marked, marked-none, marked-end, marked-hit}
 use Rattle.judging.proofs.acceptance.edge_marks.Statement.{statement}
 use Rattle.judging.proofs.acceptance.edge_marks.Tie as tie
 

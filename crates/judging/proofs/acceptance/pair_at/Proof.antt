@@ -1,6 +1,6 @@
 -- `judging::acceptance::pair_at` meets its contract, by the fields that it reads.
 -- Assumes nothing.
-use Rattle.judging.specs.Acceptance.{pairAt}
+use Rattle.conditions.specs.Edges.{pairAt}
 use borrow.Author.Needs.{needs}
 use Rattle.judging.proofs.acceptance.pair_at.Statement.{statement}
 use Rattle.judging.proofs.acceptance.pair_at.Tie as tie

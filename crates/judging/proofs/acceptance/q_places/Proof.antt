@@ -4,9 +4,9 @@ use mathlib.Core.Path.{_≡_, sym}
 use Prim.Native.Nat.{_-_, _≤_}
 use native.Mathlib.Omega.{arith}
 use borrow.Author.Needs.{needs}
-use Rattle.judging.specs.Diagram.{qAt}
+use Rattle.testing.specs.Diagram.{qAt}
 use Rattle.judging.specs.Acceptance.{qPlacesOf}
-use Rattle.judging.proofs.Laws.Condition.{layout-bounds}
+use Rattle.conditions.proofs.Laws.Condition.{layout-bounds}
 use Rattle.judging.proofs.Steps.Acceptance.{table-none, table-more}
 use Rattle.judging.proofs.acceptance.q_places.Statement.{statement}
 use Rattle.judging.proofs.acceptance.q_places.Tie as tie

@@ -8,10 +8,10 @@ use native.Mathlib.Omega.{arith}
 use borrow.Author.Needs.{needs}
 use borrow.Author.Tests.{not-true, not-false}
 use Rattle.judging.specs.Acceptance.{Searched}
-use Rattle.judging.specs.Condition.{conditionAt}
-use Rattle.judging.specs.Holding.{conditionHolds}
-use Rattle.judging.specs.Testing.{passesOf}
-use Rattle.judging.proofs.Steps.Testing.{passes-vacuous, passes-concluded}
+use Rattle.conditions.specs.Condition.{conditionAt}
+use Rattle.testing.specs.Holding.{conditionHolds}
+use Rattle.testing.specs.Testing.{passesOf}
+use Rattle.testing.proofs.Steps.Testing.{passes-vacuous, passes-concluded}
 use Rattle.judging.proofs.Steps.Verdict.{Ready, looked-ready, state-asks, states-small, total-small, test-asks, named-asks}
 use Rattle.judging.proofs.Steps.Verdict.{Passed, passed-begin, passed-from, passed-asks, advance-asks, passed-more, passed-broke, Broke}
 use Rattle.judging.proofs.Steps.Verdict.{searched-more, searched-broke, searched-end}

@@ -5,7 +5,7 @@ use native.Mathlib.Omega.{arith}
 use borrow.Author.Needs.{needs}
 use Rattle.reading.proofs.Laws.Readable.{small, variables-within}
 use Rattle.judging.specs.Acceptance.{LookedUp}
-use Rattle.judging.specs.Testing.{nodesOf, transitionsOf}
+use Rattle.testing.specs.Testing.{nodesOf, transitionsOf}
 use Rattle.judging.specs.Verdict.{statesOf}
 use Rattle.judging.proofs.Steps.Verdict.{count-is, count-asks, spans-serve, nodes-ask, transitions-ask}
 use Rattle.judging.proofs.Steps.Everywhere.{found-few, found-small, found-begun}

@@ -1,7 +1,7 @@
 -- `judging::verdicts::named` meets its contract, by the kind of condition.
 -- Assumes nothing.
 use native.Mathlib.Omega.{arith}
-use Rattle.judging.specs.Condition.{refusalNumber, nodeNumber, transitionNumber}
+use Rattle.conditions.specs.Condition.{refusalNumber, nodeNumber, transitionNumber}
 use Rattle.judging.specs.Verdict.{namedOf}
 use borrow.Author.Needs.{needs}
 use Rattle.judging.proofs.verdicts.named.Statement.{statement}

@@ -1,0 +1,5 @@
+pub mod Search
+pub mod Each
+pub mod Double
+pub mod Condition
+pub mod Listed

@@ -1,0 +1,4 @@
+-- Fair transition systems, their runs, and the three claims about these.
+pub mod Truth
+pub mod Run
+pub mod Claim

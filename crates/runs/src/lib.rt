@@ -1,0 +1,1 @@
+// Fair transition systems, their runs, and the three claims about these.

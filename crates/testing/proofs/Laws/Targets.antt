@@ -1,0 +1,286 @@
+-- Laws of the targets of a condition.
+--     chosen-last, chosen-most, chosen-each     the places chosen: one node more, how many they are, what is true of each
+--     some-chosen                               one of the places chosen holds where a marked node does
+--     marked-some                               a marked node holds where the node that may be kept does, or a target of an edge carried
+--     node-at, transition-at                    the tables of places have where each node and each transition stands
+--     node-stands, transition-stands, claimed-stands     it is the record that reading found
+--     first-claimed, q-claimed                  the property has an expression, and a q for each node that is covered
+--     node-small, claimed-small, q-small        places are small
+--     some-node, some-reached                   one of the places that a test has holds where one of the nodes that its condition names does
+-- Assumes nothing.
+use mathlib.Core.Path.{_≡_, refl, sym, ap, ap₂, _∙_}
+use mathlib.Core.Logic.{_⊎_, inl, inr, ⊎-elim}
+use mathlib.Core.Bool.{Bool, true, false, cond, _&&_, _||_, and-eq-true-iff}
+use mathlib.Core.List.{List, [], _∷_, _++_}
+use Prim.Native.Nat.{ℕ, zero, suc, _+_, _/_, _≤_, _<_}
+use native.Mathlib.Omega.{arith}
+use borrow.Author.Tests.{eq-eqb, ne-eqb, eqb-true}
+use lib.ListN.{length, getD, replicate, getD-replicate}
+use lib.Dec.{eqb}
+use lib.IntN.{ℤ}
+use Rattle.parsing.specs.declared.outline.Outline.{Outline}
+use Rattle.parsing.specs.Record.{fieldB, fieldC}
+use Rattle.parsing.specs.Kind.{truth as truthSort}
+use Rattle.parsing.specs.Section.{nodeOf, transitionOf, expressionsOf}
+use Rattle.parsing.specs.Place.{placeOf}
+use Rattle.parsing.specs.Search.{any}
+use Rattle.parsing.proofs.Laws.Place.{places-nth}
+use Rattle.parsing.proofs.Laws.Search.{any-some}
+use Rattle.parsing.proofs.Laws.Section.{kind-here}
+use Rattle.reading.specs.declared.Reading.{Reading}
+use Rattle.reading.specs.Edge.{diagram, transitionAt}
+use Rattle.reading.specs.Read.{readOf}
+use Rattle.reading.proofs.Laws.Expression.{expression-within}
+use Rattle.reading.proofs.Laws.Readable as readable
+use Rattle.evaluating.specs.Expression.{holdsOf}
+use Rattle.conditions.specs.Edges.{carries}
+use Rattle.testing.specs.Diagram.{nodeAt, nodeHolds, claimedAt, qAt}
+use Rattle.testing.specs.Holding.{someNode, someTarget}
+use Rattle.testing.specs.Testing.{marksOf, chosenFrom, nodesOf, transitionsOf, someHolds}
+use Rattle.conditions.proofs.Laws.Each.{tabulate-at}
+use Rattle.conditions.proofs.Laws.Search.{or-second, any-at, any-same}
+
+-- ---- truths
+same-bool : (a b : Bool) → (a ≡ true → b ≡ true) → (b ≡ true → a ≡ true) → a ≡ b
+same-bool true b f g = sym (f refl)
+same-bool false true f g = g refl
+same-bool false false f g = refl
+
+either : (a b : Bool) → (a || b) ≡ true → (a ≡ true) ⊎ (b ≡ true)
+either true b e = inl refl
+either false b e = inr e
+
+or-first : (a b : Bool) → a ≡ true → (a || b) ≡ true
+or-first a b e = rw e
+
+any-below : (test : ℕ → Bool) (n i : ℕ) → i < n → test i ≡ true → any test n 0 ≡ true
+any-below test n i l t = any-at test n 0 i l (let z : 0 + i ≡ i = omega arith in rw z t)
+
+-- ---- the places chosen
+module _ (marks : List Bool) (nodes : List ℕ) where
+  pub chosen-last : (n at : ℕ)
+      → chosenFrom marks nodes (suc n) at ≡ chosenFrom marks nodes n at ++ cond (getD marks (at + n) false) ((getD nodes (at + n) 0 + 1) ∷ []) []
+  unfolding chosenFrom
+  chosen-last zero at = let z : at + 0 ≡ at = omega arith in rw z
+  chosen-last (suc n) at =
+      let z : at + suc n ≡ at + 1 + n = omega arith in
+      rw z (go (getD marks at false) (getD nodes at 0 + 1) _ _ _ (chosen-last n (at + 1)))
+    where
+      go : (b : Bool) (x : ℕ) (l m t : List ℕ) → l ≡ m ++ t → cond b (x ∷ l) l ≡ cond b (x ∷ m) m ++ t
+      go true x l m t e = ap (λ (k : List ℕ). x ∷ k) e
+      go false x l m t e = e
+
+  pub chosen-most : (n at : ℕ) → length (chosenFrom marks nodes n at) ≤ n
+  unfolding chosenFrom
+  chosen-most zero at = omega arith
+  chosen-most (suc n) at = go (getD marks at false) (getD nodes at 0 + 1) (chosenFrom marks nodes n (at + 1)) (chosen-most n (at + 1))
+    where
+      go : (b : Bool) (x : ℕ) (l : List ℕ) → length l ≤ n → length (cond b (x ∷ l) l) ≤ suc n
+      go true x l m = omega arith
+      go false x l m = omega arith
+
+  -- what is true of each node's assertion is true of each place chosen
+  module _ (P : ℕ → Type 0) where
+    pub chosen-each : (n at : ℕ) → ((j : ℕ) → at ≤ j → j < at + n → P (getD nodes j 0 + 1)) → (i : ℕ) → i < length (chosenFrom marks nodes n at)
+        → P (getD (chosenFrom marks nodes n at) i 0)
+    unfolding chosenFrom
+    chosen-each zero at p i l = absurd (omega arith)
+    chosen-each (suc n) at p i l =
+        go (getD marks at false) (getD nodes at 0 + 1) (chosenFrom marks nodes n (at + 1)) i l (p at (omega arith) (omega arith))
+        (chosen-each n (at + 1) (λ j a b. p j (omega arith) (omega arith)))
+      where
+        go : (b : Bool) (x : ℕ) (m : List ℕ) (i : ℕ) → i < length (cond b (x ∷ m) m) → P x → ((k : ℕ) → k < length m → P (getD m k 0))
+            → P (getD (cond b (x ∷ m) m) i 0)
+        go true x m zero l p h = p
+        go true x m (suc i) l p h = h i (omega arith)
+        go false x m i l p h = h i l
+
+module _ (file : List ℕ) (state : List ℤ) where
+  some-one : (b : Bool) (x : ℕ) (l : List ℕ) (rest : Bool) → someHolds file l state ≡ rest
+      → someHolds file (cond b (x ∷ l) l) state ≡ ((b && holdsOf file x state) || rest)
+  unfolding someHolds
+  some-one true x l rest e = ap (λ (r : Bool). holdsOf file x state || r) e
+  some-one false x l rest e = e
+
+  pub some-chosen : (marks : List Bool) (nodes : List ℕ) (n at : ℕ)
+      → someHolds file (chosenFrom marks nodes n at) state ≡ any (λ j. getD marks j false && holdsOf file (getD nodes j 0 + 1) state) n at
+  unfolding chosenFrom someHolds any
+  some-chosen marks nodes zero at = refl
+  some-chosen marks nodes (suc n) at =
+      some-one (getD marks at false) (getD nodes at 0 + 1) (chosenFrom marks nodes n (at + 1)) _ (some-chosen marks nodes n (at + 1))
+
+-- ---- the nodes marked
+module _ (keep : Bool) (n edges edge : ℕ) (carried : ℕ → Bool) (to : ℕ → ℕ) where
+  -- node j is the target of an edge carried, or node n, which may be kept
+  abbrev isTarget : ℕ → Bool
+  isTarget j = any (λ e. carried e && eqb (to e) j) edges edge
+
+  abbrev pub isMarked : ℕ → Bool
+  isMarked j = (keep && eqb j n) || isTarget j
+
+  module _ (holds : ℕ → Bool) where
+    -- a target of an edge carried holds
+    abbrev targetHolds : Bool
+    targetHolds = any (λ e. carried e && holds (to e)) edges edge
+
+    -- a marked node that holds is the one kept, or a target
+    kept : (j : ℕ) → holds j ≡ true → (keep && eqb j n) ≡ true → ((keep && holds n) || targetHolds) ≡ true
+    kept j h e =
+        let b = and-eq-true-iff keep (eqb j n) .0 e in
+        let same : j ≡ n = eqb-true j n (b .1) in
+        or-first (keep && holds n) targetHolds (and-eq-true-iff keep (holds n) .1 (b .0, rw same at h))
+
+    moved : (j : ℕ) → holds j ≡ true → isTarget j ≡ true → ((keep && holds n) || targetHolds) ≡ true
+    moved j h e =
+        let s = any-some (λ e. carried e && eqb (to e) j) edges edge e in
+        let b = and-eq-true-iff (carried (edge + s .which)) (eqb (to (edge + s .which)) j) .0 (s .passes) in
+        let same : to (edge + s .which) ≡ j = eqb-true (to (edge + s .which)) j (b .1) in
+        or-second (keep && holds n) targetHolds
+        (any-at (λ e. carried e && holds (to e)) edges edge (s .which) (s .below)
+        (and-eq-true-iff (carried (edge + s .which)) (holds (to (edge + s .which))) .1 (b .0, rw same h)))
+
+    forth : (j : ℕ) → (isMarked j && holds j) ≡ true → ((keep && holds n) || targetHolds) ≡ true
+    forth j e =
+        let b = and-eq-true-iff (isMarked j) (holds j) .0 e in
+        ⊎-elim (kept j (b .1)) (moved j (b .1)) (either (keep && eqb j n) (isTarget j) (b .0))
+
+    -- and each of these is marked
+    module _ (nodes : ℕ) (there : n < nodes) (named : (e : ℕ) → e < edges → to (edge + e) < nodes) where
+      stays : (keep && holds n) ≡ true → any (λ j. isMarked j && holds j) nodes 0 ≡ true
+      stays e =
+          let b = and-eq-true-iff keep (holds n) .0 e in
+          any-below (λ j. isMarked j && holds j) nodes n there
+          (and-eq-true-iff (isMarked n) (holds n) .1
+          (or-first (keep && eqb n n) (isTarget n) (and-eq-true-iff keep (eqb n n) .1 (b .0, eq-eqb n n refl)), b .1))
+
+      reach : (j : ℕ) → j < nodes → holds j ≡ true → isTarget j ≡ true → any (λ j. isMarked j && holds j) nodes 0 ≡ true
+      reach j l h a =
+          any-below (λ j. isMarked j && holds j) nodes j l
+          (and-eq-true-iff (isMarked j) (holds j) .1 (or-second (keep && eqb j n) (isTarget j) a, h))
+
+      goes : targetHolds ≡ true → any (λ j. isMarked j && holds j) nodes 0 ≡ true
+      goes e =
+          let s = any-some (λ e. carried e && holds (to e)) edges edge e in
+          let b = and-eq-true-iff (carried (edge + s .which)) (holds (to (edge + s .which))) .0 (s .passes) in
+          let j = to (edge + s .which) in
+          reach j (named (s .which) (s .below)) (b .1)
+          (any-at (λ e. carried e && eqb (to e) j) edges edge (s .which) (s .below)
+          (and-eq-true-iff (carried (edge + s .which)) (eqb j j) .1 (b .0, eq-eqb j j refl)))
+
+      pub marked-some : any (λ j. isMarked j && holds j) nodes 0 ≡ ((keep && holds n) || targetHolds)
+      marked-some =
+          same-bool (any (λ j. isMarked j && holds j) nodes 0) ((keep && holds n) || targetHolds)
+          (λ e. let s = any-some (λ j. isMarked j && holds j) nodes 0 e in forth (0 + s .which) (s .passes))
+          (λ e. ⊎-elim stays goes (either (keep && holds n) targetHolds e))
+
+-- ---- the places of a readable file
+module _ (file : List ℕ) (o : Outline) (r : readOf file ≡ Reading.Readable o) where
+  pub node-at : (n : ℕ) → n < o .nodes → getD (nodesOf file o) n 0 ≡ nodeAt file o n
+  unfolding nodesOf nodeAt
+  node-at n l = let m = readable.nodes-within file o r .1 in places-nth (nodeOf file (o .vars)) (o .nodes) (o .node) n (omega arith) l
+
+  pub transition-at : (t : ℕ) → t < o .transitions → getD (transitionsOf file o) t 0 ≡ transitionAt file o t
+  unfolding transitionsOf transitionAt
+  transition-at t l =
+      let m = readable.transitions-within file o r in
+      places-nth (transitionOf file (o .vars)) (o .transitions) (o .transition) t (omega arith) l
+
+  -- the records that reading found
+  pub node-stands : (n : ℕ) (l : n < o .nodes) → nodeAt file o n ≡ readable.node file o r n l .place
+  unfolding nodeAt
+  node-stands n l = ap placeOf (readable.node file o r n l .reached)
+
+  pub transition-stands : (t : ℕ) (l : t < o .transitions) → transitionAt file o t ≡ readable.transition file o r t l .place
+  unfolding transitionAt
+  transition-stands t l = ap placeOf (readable.transition file o r t l .reached)
+
+  pub claimed-stands : (i : ℕ) (l : i < expressionsOf file (o .property)) → claimedAt file o i ≡ readable.claimed file o r i l .place
+  unfolding claimedAt
+  claimed-stands i l = ap placeOf (readable.claimed file o r i l .reached)
+
+  -- the file has at most 4,096 records
+  small : (at : ℕ) → at < length file / 8 → at ≤ 4096
+  small at l = let m = readable.small file o r in omega arith
+
+  pub node-small : (n : ℕ) → n < o .nodes → getD (nodesOf file o) n 0 ≤ 4096
+  node-small n l =
+      let x = readable.node file o r n l in
+      rw (node-at n l, node-stands n l) (small (x .place) (kind-here file 0x06 (x .place) (x .named)))
+
+  pub claimed-small : (i : ℕ) → i < expressionsOf file (o .property) → claimedAt file o i ≤ 4096
+  claimed-small i l =
+      let x = readable.claimed file o r i l in
+      let w = expression-within file (o .vars) truthSort (x .place) (x .end) (x .expression) in
+      rw (claimed-stands i l) (small (x .place) (omega (arith, w .0, w .1)))
+
+  -- the property has an expression, and a q for each node covered
+  pub first-claimed : 0 < expressionsOf file (o .property)
+  unfolding expressionsOf
+  first-claimed = by (eqb (diagram file o) 1) (eqb (diagram file o) 2)
+    where
+      by : (b c : Bool) → 0 < cond b 1 (cond c (fieldB file (o .property) + 1) 2)
+      by true c = omega arith
+      by false true = omega arith
+      by false false = omega arith
+
+  pub q-claimed : (n : ℕ) → n < o .nodes → (diagram file o ≡ 3 → n ≡ 0)
+      → cond (eqb (diagram file o) 1) 0 (n + 1) < expressionsOf file (o .property)
+  unfolding expressionsOf
+  q-claimed n l z = by (readable.property-kind file o r)
+    where
+      by : (diagram file o ≡ 2) ⊎ ((diagram file o ≡ 1) ⊎ (diagram file o ≡ 3))
+          → cond (eqb (diagram file o) 1) 0 (n + 1) < expressionsOf file (o .property)
+      by (inl w) =
+          let b : o .nodes ≡ fieldB file (o .property) = readable.phases file o r w in
+          rw (ne-eqb (diagram file o) 1 (λ e. omega arith), eq-eqb (diagram file o) 2 w) (omega arith)
+      by (inr (inl w)) = rw (eq-eqb (diagram file o) 1 w) (omega arith)
+      by (inr (inr w)) =
+          let q : n ≡ 0 = z w in
+          rw (ne-eqb (diagram file o) 1 (λ e. omega arith), ne-eqb (diagram file o) 2 (λ e. omega arith)) (omega arith)
+
+  pub q-small : (n : ℕ) → n < o .nodes → (diagram file o ≡ 3 → n ≡ 0) → qAt file o n ≤ 4096
+  unfolding qAt
+  q-small n l z = claimed-small (cond (eqb (diagram file o) 1) 0 (n + 1)) (q-claimed n l z)
+
+  -- ---- the places that a test has
+  module _ (state : List ℤ) where
+    -- the assertion of node j, where the table has it
+    abbrev listedHolds : ℕ → Bool
+    listedHolds j = holdsOf file (getD (nodesOf file o) j 0 + 1) state
+
+    listed-is : (j : ℕ) → j < o .nodes → listedHolds j ≡ nodeHolds file o j state
+    unfolding nodeHolds
+    listed-is j l = ap (λ (k : ℕ). holdsOf file (k + 1) state) (node-at j l)
+
+    every : (j : ℕ) → j < o .nodes → (getD (replicate 32 true) j false && listedHolds j) ≡ nodeHolds file o j state
+    every j l =
+        let m = readable.nodes-within file o r .1 in
+        ap (λ (b : Bool). b && listedHolds j) (getD-replicate {A = Bool} 32 j true false (omega arith)) ∙ listed-is j l
+
+    pub some-node : someHolds file (chosenFrom (replicate 32 true) (nodesOf file o) (o .nodes) 0) state ≡ someNode file o state
+    unfolding someNode
+    some-node =
+        some-chosen file state (replicate 32 true) (nodesOf file o) (o .nodes) 0
+        ∙ any-same (λ j. getD (replicate 32 true) j false && listedHolds j) (λ j. nodeHolds file o j state) (o .nodes) 0
+        (λ i l. every (0 + i) (omega arith))
+
+    module _ (n t : ℕ) (keep : Bool) where
+      abbrev marked : ℕ → Bool
+      marked = isMarked keep n (o .edges) (o .edge) (carries file n t) (fieldC file)
+
+      marked-at : (j : ℕ) → j < 32 → getD (marksOf file o n t keep) j false ≡ marked j
+      unfolding marksOf
+      marked-at j l = tabulate-at marked false 32 j l
+
+      marked-holds : (j : ℕ) → j < o .nodes → (getD (marksOf file o n t keep) j false && listedHolds j) ≡ (marked j && nodeHolds file o j state)
+      marked-holds j l = let m = readable.nodes-within file o r .1 in ap₂ _&&_ (marked-at j (omega arith)) (listed-is j l)
+
+      pub some-reached : n < o .nodes → someHolds file (chosenFrom (marksOf file o n t keep) (nodesOf file o) (o .nodes) 0) state
+          ≡ ((keep && nodeHolds file o n state) || someTarget file o n t state)
+      unfolding someTarget
+      some-reached l =
+          some-chosen file state (marksOf file o n t keep) (nodesOf file o) (o .nodes) 0
+          ∙ any-same (λ j. getD (marksOf file o n t keep) j false && listedHolds j) (λ j. marked j && nodeHolds file o j state) (o .nodes) 0
+          (λ i m. marked-holds (0 + i) (omega arith))
+          ∙ marked-some keep n (o .edges) (o .edge) (carries file n t) (fieldC file) (λ j. nodeHolds file o j state) (o .nodes) l
+          (λ e k. readable.edge file o r e k .to)

@@ -1,0 +1,384 @@
+-- The marks of edges, the places chosen and the truths tried, one after the other; and a test, by what its premise and its step say.
+-- Assumes nothing.
+use mathlib.Core.Path.{_≡_, refl, sym, ap, subst, _∙_}
+use mathlib.Core.Bool.{Bool, true, false, not, cond, _&&_, _||_, false≢true, and-eq-true-iff}
+use mathlib.Core.List.{List, [], _∷_, _++_, append-nil, append-assoc}
+use Prim.Native.Nat.{ℕ, zero, suc, _+_, _*_, _-_, _≤_, _<_}
+use native.Mathlib.Numerals.{add-one}
+use native.Mathlib.Omega.{arith}
+use borrow.Author.Tests.{eqb-true, eqb-false, eq-eqb, ne-eqb}
+use lib.ListN.{length, getD, set, take, drop, replicate, length-set, length-append, length-replicate, getD-replicate, drop-of-length-le}
+use lib.Seq.{getD-set-same, getD-set-other, ext-getD, set-at, drop-cons, getD-take, length-take-le}
+use lib.Dec.{eqb}
+use lib.IntN.{ℤ}
+use Rattle.parsing.specs.declared.outline.Outline.{Outline}
+use Rattle.parsing.specs.Record.{fieldC}
+use Rattle.parsing.specs.Place.{tabulate}
+use Rattle.parsing.specs.Search.{any}
+use Rattle.parsing.proofs.Laws.Place.{length-tabulate, getD-tabulate}
+use Rattle.reading.specs.declared.Reading.{Reading}
+use Rattle.reading.specs.Edge.{transitionAt}
+use Rattle.reading.specs.Read.{readOf}
+use Rattle.reading.proofs.Laws.Readable as readable
+use Rattle.evaluating.specs.declared.transitions.Stepped.{Stepped}
+use Rattle.evaluating.specs.Expression.{holdsOf}
+use Rattle.evaluating.specs.State.{Within}
+use Rattle.evaluating.specs.Transition.{guardOf, assignmentsOf, allInRange, enabledOf, successorOf, stepOf}
+use Rattle.evaluating.proofs.Laws.Transition.{assigned-within}
+use Rattle.conditions.specs.declared.Condition.{Condition}
+use Rattle.conditions.specs.declared.Condition.the-variants.{Start, Entry, Cover, Range, Step, Enabling}
+use Rattle.testing.specs.declared.Conclusion.{Conclusion}
+use Rattle.testing.specs.declared.Targets.{Targets}
+use Rattle.testing.specs.declared.Test.{Test}
+use Rattle.conditions.specs.Edges.{isDouble}
+use Rattle.testing.specs.Diagram.{nodeAt, claimedAt, qAt}
+use Rattle.conditions.specs.Condition.{Listed}
+use Rattle.runs.specs.Truth.{implies}
+use Rattle.testing.specs.Testing.{marksOf, chosenFrom, targetsOf, chosenOf, nodesOf, transitionsOf, preparedOf, testOf}
+use Rattle.testing.specs.Testing.{someHolds, targetsListed, concludesOf, passesOf}
+use Rattle.conditions.specs.Layout.{doubleOf}
+use Rattle.conditions.specs.Edges.{pairAt}
+use Rattle.conditions.proofs.Laws.Condition.{Parts, listed-parts}
+use Rattle.conditions.proofs.Laws.Double.{double-is}
+use Rattle.testing.proofs.Laws.Targets.{isMarked, chosen-last, chosen-most, node-at, transition-at, node-small}
+
+-- ---- the marks of edges
+-- the record of edge e is there, in a small file; its target is one of at most 32 nodes, and its pair one of at most 1,024
+pub record EdgeHere (file : List ℕ) (o : Outline) (e : ℕ) : Type 0 where
+  pub there : 8 * (o .edge + e) + 8 ≤ length file
+  pub small : length file ≤ 32768
+  pub target : fieldC file (o .edge + e) < 32
+  pub pair : pairAt file (o .edge + e) < 1024
+
+pub edge-here : (file : List ℕ) (o : Outline) → readOf file ≡ Reading.Readable o → (e : ℕ) → e < o .edges → EdgeHere file o e
+unfolding pairAt
+edge-here file o r e l =
+    let x = readable.edge file o r e l in
+    let few = readable.nodes-within file o r .1 in
+    record {
+      there = omega (arith, readable.fits file o r .edges-here);
+      small = readable.small file o r;
+      target = omega (arith, x .to);
+      pair = omega (arith, x .from, x .transition, readable.transitions-within file o r);
+    }
+
+eqb-swap : (a b : ℕ) → eqb a b ≡ eqb b a
+eqb-swap a b = by (eqb b a) refl
+  where
+    by : (t : Bool) → eqb b a ≡ t → eqb a b ≡ t
+    by true is = eq-eqb a b (sym (eqb-true b a is))
+    by false is = ne-eqb a b (λ e. eqb-false b a is (sym e))
+
+any-last : (test : ℕ → Bool) (n at : ℕ) → any test (suc n) at ≡ (any test n at || test (at + n))
+unfolding any
+any-last test zero at = let z : at + 0 ≡ at = omega arith in rw z (none (test at))
+  where
+    none : (a : Bool) → (a || false) ≡ a
+    none true = refl
+    none false = refl
+any-last test (suc n) at =
+    let z : at + suc n ≡ at + 1 + n = omega arith in
+    rw z (regroup (test at) (any test n (at + 1)) (test (at + 1 + n)) _ (any-last test n (at + 1)))
+  where
+    regroup : (a b c d : Bool) → d ≡ (b || c) → (a || d) ≡ ((a || b) || c)
+    regroup true b c d e = refl
+    regroup false b c d e = e
+
+set-mark : (l : List Bool) (i j : ℕ) (v : Bool) → i < length l → getD (set l i v) j false ≡ cond (eqb j i) v (getD l j false)
+set-mark l i j v h = by (eqb j i) refl
+  where
+    by : (b : Bool) → eqb j i ≡ b → getD (set l i v) j false ≡ cond b v (getD l j false)
+    by true is = subst (λ (k : ℕ). getD (set l i v) k false ≡ v) (sym (eqb-true j i is)) (getD-set-same l i v false h)
+    by false is = getD-set-other l i j v false (eqb-false j i is)
+
+mark-first : (b keep : Bool) → cond b keep false ≡ ((keep && b) || false)
+mark-first true true = refl
+mark-first true false = refl
+mark-first false true = refl
+mark-first false false = refl
+
+mark-more : (b a r : Bool) → cond b true (a || r) ≡ (a || (r || b))
+mark-more true true r = refl
+mark-more true false true = refl
+mark-more true false false = refl
+mark-more false true r = refl
+mark-more false false true = refl
+mark-more false false false = refl
+
+mark-same : (a r : Bool) → (a || r) ≡ (a || (r || false))
+mark-same true r = refl
+mark-same false true = refl
+mark-same false false = refl
+
+module _ (size : ℕ) (keep : Bool) (n edges edge : ℕ) (carried : ℕ → Bool) (to : ℕ → ℕ) where
+  -- the marks that the first e edges make
+  pub record Marked (marks : List Bool) (e : ℕ) : Type 0 where
+    pub passed : e ≤ edges
+    pub long : length marks ≡ size
+    pub each : (j : ℕ) → j < size → getD marks j false ≡ isMarked keep n e edge carried to j
+
+  module _ {marks : List Bool} {e : ℕ} (k : Marked marks e) where
+    pub marked-end : edges ≤ e → marks ≡ tabulate (isMarked keep n edges edge carried to) size 0
+    marked-end l =
+        let same : e ≡ edges = omega (arith, k .passed) in
+        let mark = isMarked keep n edges edge carried to in
+        ext-getD false marks (tabulate mark size 0) (k .long ∙ sym (length-tabulate mark size 0))
+        (λ j m. entry same j (subst (λ (s : ℕ). j < s) (k .long) m))
+      where
+        entry : e ≡ edges → (j : ℕ) → j < size → getD marks j false ≡ getD (tabulate (isMarked keep n edges edge carried to) size 0) j false
+        entry same j m =
+            k .each j m
+            ∙ ap (λ (c : ℕ). isMarked keep n c edge carried to j) same
+            ∙ ap (isMarked keep n edges edge carried to) (omega arith)
+            ∙ sym (getD-tabulate (isMarked keep n edges edge carried to) false size 0 j m)
+
+    module _ (l : e < edges) where
+      -- the next edge is carried: its target is marked
+      pub marked-hit : {at : ℕ} → at ≡ to (edge + e) → to (edge + e) < size → carried (edge + e) ≡ true → Marked (set marks at true) (e + 1)
+      marked-hit {at} is h c =
+          record {
+            passed = omega arith;
+            long = length-set marks at true ∙ k .long;
+            each = λ j m.
+                set-mark marks at j true (omega (arith, is, h, k .long))
+                ∙ ap (cond (eqb j at) true) (k .each j m)
+                ∙ mark-more (eqb j at) (keep && eqb j n) (any (λ x. carried x && eqb (to x) j) e edge)
+                ∙ ap (λ (b : Bool). (keep && eqb j n) || b) (next j);
+          }
+        where
+          next : (j : ℕ) → (any (λ x. carried x && eqb (to x) j) e edge || eqb j at) ≡ any (λ x. carried x && eqb (to x) j) (e + 1) edge
+          next j = rw (add-one, any-last (λ x. carried x && eqb (to x) j) e edge, c, ← is, eqb-swap j at)
+
+      pub marked-miss : carried (edge + e) ≡ false → Marked marks (e + 1)
+      marked-miss c =
+          record {
+            passed = omega arith;
+            long = k .long;
+            each = λ j m.
+                k .each j m
+                ∙ mark-same (keep && eqb j n) (any (λ x. carried x && eqb (to x) j) e edge)
+                ∙ ap (λ (b : Bool). (keep && eqb j n) || b) (next j);
+          }
+        where
+          next : (j : ℕ) → (any (λ x. carried x && eqb (to x) j) e edge || false) ≡ any (λ x. carried x && eqb (to x) j) (e + 1) edge
+          next j = rw (add-one, any-last (λ x. carried x && eqb (to x) j) e edge, c)
+
+-- no edge has passed: at most what is kept is marked
+module _ (size n edges edge : ℕ) (carried : ℕ → Bool) (to : ℕ → ℕ) where
+  pub marked-none : Marked size false n edges edge carried to (replicate size false) 0
+  unfolding any
+  marked-none =
+      record {
+        passed = omega arith;
+        long = length-replicate {A = Bool} size false;
+        each = λ j m. getD-replicate {A = Bool} size j false false m;
+      }
+
+  pub marked-kept : (keep : Bool) → n < size → Marked size keep n edges edge carried to (set (replicate size false) n keep) 0
+  unfolding any
+  marked-kept keep l =
+      record {
+        passed = omega arith;
+        long = length-set (replicate size false) n keep ∙ marked-none .long;
+        each = λ j m.
+            set-mark (replicate size false) n j keep (omega (arith, marked-none .long))
+            ∙ ap (cond (eqb j n) keep) (marked-none .each j m)
+            ∙ mark-first (eqb j n) keep;
+      }
+
+-- ---- the places chosen
+module _ (marks : List Bool) (nodes : List ℕ) where
+  chosen-next : (i : ℕ) → chosenFrom marks nodes (i + 1) 0 ≡ chosenFrom marks nodes i 0 ++ cond (getD marks i false) ((getD nodes i 0 + 1) ∷ []) []
+  chosen-next i = let z : 0 + i ≡ i = omega arith in rw (add-one i) (rw z at (chosen-last marks nodes i 0))
+
+  module _ (n : ℕ) where
+    -- the places chosen of the first i nodes; zeros beyond
+    pub record Choosing (places : List ℕ) (count i : ℕ) : Type 0 where
+      pub passed : i ≤ n
+      pub counted : count ≡ length (chosenFrom marks nodes i 0)
+      pub filled : places ≡ chosenFrom marks nodes i 0 ++ replicate (32 - count) 0
+
+    pub choosing-begin : Choosing (replicate 32 0) 0 0
+    unfolding chosenFrom
+    choosing-begin = record { passed = omega arith; counted = refl; filled = refl }
+
+    module _ {places : List ℕ} {count i : ℕ} (k : Choosing places count i) where
+      pub choosing-few : count ≤ i
+      choosing-few = omega (arith, k .counted, chosen-most marks nodes i 0)
+
+      pub choosing-end : n ≤ i → _≡_ {A = Targets} (record { places = places; count = count }) (chosenOf marks nodes n)
+      unfolding chosenOf targetsOf
+      choosing-end l =
+          let same : i ≡ n = omega (arith, k .passed) in
+          let c : count ≡ length (chosenFrom marks nodes n 0) = rw same at (k .counted) in
+          let f : places ≡ chosenFrom marks nodes n 0 ++ replicate (32 - count) 0 = rw same at (k .filled) in
+          rw (f, c)
+
+      module _ (l : i < n) (m : n ≤ 32) where
+        pub choosing-more : getD marks i false ≡ true → Choosing (set places count (getD nodes i 0 + 1)) (count + 1) (i + 1)
+        choosing-more t =
+            let few = choosing-few in
+            let next : chosenFrom marks nodes (i + 1) 0 ≡ chosenFrom marks nodes i 0 ++ ((getD nodes i 0 + 1) ∷ []) =
+            rw t at (chosen-next i) in
+            let z : 32 - count ≡ suc (32 - (count + 1)) = omega arith in
+            record {
+              passed = omega arith;
+              counted = rw (next, length-append) (omega (arith, k .counted));
+              filled =
+                  rw (next, k .filled, z, append-assoc)
+                  (set-at (chosenFrom marks nodes i 0) 0 (replicate (32 - (count + 1)) 0) (getD nodes i 0 + 1) count (sym (k .counted)));
+            }
+
+        pub choosing-skip : getD marks i false ≡ false → Choosing places count (i + 1)
+        choosing-skip t =
+            let next : chosenFrom marks nodes (i + 1) 0 ≡ chosenFrom marks nodes i 0 =
+            rw t at (chosen-next i) ∙ append-nil (chosenFrom marks nodes i 0) in
+            record { passed = omega arith; counted = rw next (k .counted); filled = rw next (k .filled) }
+
+-- ---- the truths tried: the first `count` of the places; place i is next
+module _ (file places : List ℕ) (count i : ℕ) (state : List ℤ) (enough : count ≤ length places) where
+  pub some-end : count ≤ i → someHolds file (drop i (take count places)) state ≡ false
+  unfolding someHolds
+  some-end h = rw (drop-of-length-le (take count places) {i = i} (rw (length-take-le count places enough) h))
+
+  module _ (below : i < count) where
+    next-place : drop i (take count places) ≡ getD places i 0 ∷ drop (i + 1) (take count places)
+    next-place =
+        rw (add-one, ← (getD-take count places i 0 below)) (drop-cons (take count places) i 0 (rw (length-take-le count places enough) below))
+
+    pub some-here : holdsOf file (getD places i 0) state ≡ true → someHolds file (drop i (take count places)) state ≡ true
+    unfolding someHolds
+    some-here t = rw (next-place, t)
+
+    pub some-later : holdsOf file (getD places i 0) state ≡ false
+        → someHolds file (drop i (take count places)) state ≡ someHolds file (drop (i + 1) (take count places)) state
+    unfolding someHolds
+    some-later t = ap (λ (l : List ℕ). someHolds file l state) next-place ∙ rw t
+
+-- ---- a test
+implies-or : (p q : Bool) → (not p || q) ≡ implies p q
+unfolding implies
+implies-or true q = refl
+implies-or false q = refl
+
+-- whether a conclusion speaks of a transition
+abbrev pub steps : Conclusion → Bool
+steps Conclusion.SomeTarget = false
+steps Conclusion.InRange = true
+steps Conclusion.Reached = true
+steps Conclusion.Enabled = true
+
+pub steps-apart : {k c : Conclusion} → k ≡ c → steps c ≡ true → k ≡ Conclusion.SomeTarget → ⊥
+steps-apart e t f = false≢true (ap steps (sym f ∙ e) ∙ t)
+
+module _ (lows highs : List ℤ) (file : List ℕ) (at : ℕ) (state : List ℤ) {s : Stepped} (is : s ≡ stepOf lows highs file at state) where
+  enabled-is : s .enabled ≡ enabledOf lows highs file at state
+  unfolding stepOf
+  enabled-is = ap (λ (r : Stepped). r .enabled) is
+
+  module _ (e : s .enabled ≡ true) where
+    next-is : s .next ≡ successorOf file at state
+    unfolding stepOf
+    next-is = ap (λ (r : Stepped). r .next) is ∙ rw (← enabled-is, e)
+
+    pub next-within : Within lows highs state → Within lows highs (s .next)
+    unfolding successorOf enabledOf
+    next-within w =
+        let b = and-eq-true-iff (guardOf file at state) (allInRange lows highs (assignmentsOf file at state)) .0 (sym enabled-is ∙ e) in
+        rw next-is (assigned-within lows highs (assignmentsOf file at state) state w (b .1))
+
+module _ (lows highs : List ℤ) (file : List ℕ) (test : Test) (state : List ℤ) where
+  module _ {p : Bool} (is : p ≡ holdsOf file (test .premise) state) where
+    pub passes-vacuous : p ≡ false → passesOf lows highs file test state ≡ true
+    unfolding passesOf implies
+    passes-vacuous t = rw (← is, t)
+
+    pub passes-concluded : p ≡ true → {q : Bool} → q ≡ concludesOf lows highs file test (test .conclusion) state
+        → passesOf lows highs file test state ≡ q
+    unfolding passesOf implies
+    passes-concluded t e = rw (← is, t, e)
+
+  pub concludes-some : test .conclusion ≡ Conclusion.SomeTarget
+      → someHolds file (targetsListed test) state ≡ concludesOf lows highs file test (test .conclusion) state
+  unfolding concludesOf
+  concludes-some k = rw k
+
+  module _ {s : Stepped} (is : s ≡ stepOf lows highs file (test .transition) state) where
+    enabled : s .enabled ≡ enabledOf lows highs file (test .transition) state
+    enabled = enabled-is lows highs file (test .transition) state is
+
+    pub concludes-range : test .conclusion ≡ Conclusion.InRange
+        → (not (s .guard) || s .enabled) ≡ concludesOf lows highs file test (test .conclusion) state
+    unfolding concludesOf stepOf
+    concludes-range k =
+        rw k
+        (ap (λ (r : Stepped). not (r .guard) || r .enabled) is
+        ∙ implies-or (guardOf file (test .transition) state) (enabledOf lows highs file (test .transition) state))
+
+    pub concludes-enabled : test .conclusion ≡ Conclusion.Enabled → s .enabled ≡ concludesOf lows highs file test (test .conclusion) state
+    unfolding concludesOf
+    concludes-enabled k = rw k enabled
+
+    pub concludes-idle : test .conclusion ≡ Conclusion.Reached → s .enabled ≡ false
+        → true ≡ concludesOf lows highs file test (test .conclusion) state
+    unfolding concludesOf implies
+    concludes-idle k e = rw (k, ← enabled, e)
+
+    pub concludes-reached : test .conclusion ≡ Conclusion.Reached → s .enabled ≡ true
+        → someHolds file (targetsListed test) (s .next) ≡ concludesOf lows highs file test (test .conclusion) state
+    unfolding concludesOf implies
+    concludes-reached k e =
+        rw (k, ← enabled, e) (ap (someHolds file (targetsListed test)) (next-is lows highs file (test .transition) state is e))
+
+-- ---- the test of a condition, by the tables of places
+module _ (file : List ℕ) (o : Outline) where
+  pub parts-of : {c d : Condition} → readOf file ≡ Reading.Readable o → Listed file o c → c ≡ d → Parts file o d
+  parts-of {c} r listed e = subst (Parts file o) e (listed-parts file o r c listed)
+
+  module _ (r : readOf file ≡ Reading.Readable o) {nodes : List ℕ} (is : nodes ≡ nodesOf file o) where
+    pub nodes-small : (n : ℕ) → n < o .nodes → getD nodes n 0 ≤ 4096
+    nodes-small n l = rw is (node-small file o r n l)
+
+    nodes-at : (n : ℕ) → n < o .nodes → getD nodes n 0 ≡ nodeAt file o n
+    nodes-at n l = rw is (node-at file o r n l)
+
+    transitions-at : {transitions : List ℕ} → transitions ≡ transitionsOf file o → (t : ℕ) → t < o .transitions
+        → getD transitions t 0 ≡ transitionAt file o t
+    transitions-at are t m = rw are (transition-at file o r t m)
+
+    module _ {c : Condition} where
+      pub test-start : c ≡ Start → {all : Targets} → all ≡ chosenOf (replicate 32 true) nodes (o .nodes)
+          → preparedOf (o .vars + 1) Conclusion.SomeTarget 0 all ≡ testOf file o c
+      unfolding testOf
+      test-start e a = rw (e, a, is)
+
+      pub test-entry : c ≡ Entry → {all : Targets} → all ≡ chosenOf (replicate 32 true) nodes (o .nodes) → {p : ℕ} → p ≡ claimedAt file o 0
+          → preparedOf p Conclusion.SomeTarget 0 all ≡ testOf file o c
+      unfolding testOf
+      test-entry e a p = rw (e, a, is, p)
+
+      module _ {n : ℕ} (l : n < o .nodes) where
+        pub test-cover : c ≡ Cover n → {q : Targets} {at : ℕ} → q ≡ targetsOf (at ∷ []) → at ≡ qAt file o n
+            → preparedOf (getD nodes n 0 + 1) Conclusion.SomeTarget 0 q ≡ testOf file o c
+        unfolding testOf
+        test-cover e q a = rw (e, q, a, nodes-at n l)
+
+        module _ {transitions : List ℕ} (are : transitions ≡ transitionsOf file o) {t : ℕ} (m : t < o .transitions) where
+          pub test-range : c ≡ Range n t → {q : Targets} → q ≡ targetsOf []
+              → preparedOf (getD nodes n 0 + 1) Conclusion.InRange (getD transitions t 0) q ≡ testOf file o c
+          unfolding testOf
+          test-range e q = rw (e, q, nodes-at n l, transitions-at are t m)
+
+          pub test-enabling : c ≡ Enabling n t → {q : Targets} → q ≡ targetsOf []
+              → preparedOf (getD nodes n 0 + 1) Conclusion.Enabled (getD transitions t 0) q ≡ testOf file o c
+          unfolding testOf
+          test-enabling e q = rw (e, q, nodes-at n l, transitions-at are t m)
+
+          pub test-step : c ≡ Step n t → {double : ℕ} → double ≡ doubleOf file o n
+              → {marks : List Bool} → marks ≡ marksOf file o n t (not (eqb double t)) → {q : Targets} → q ≡ chosenOf marks nodes (o .nodes)
+              → preparedOf (getD nodes n 0 + 1) Conclusion.Reached (getD transitions t 0) q ≡ testOf file o c
+          unfolding testOf
+          test-step e {double} d {marks} k q =
+              let same : eqb double t ≡ isDouble file o n t = eqb-swap double t ∙ ap (eqb t) d ∙ sym (double-is file o r n t m) in
+              let chosen : marks ≡ marksOf file o n t (not (isDouble file o n t)) = rw same at k in
+              rw (e, q, chosen, nodes-at n l, transitions-at are t m, is)

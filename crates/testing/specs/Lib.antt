@@ -1,0 +1,4 @@
+-- Whether a condition holds at a state: the condition prepared for its tests.
+pub mod Diagram
+pub mod Holding
+pub mod Testing

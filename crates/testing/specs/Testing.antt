@@ -1,0 +1,99 @@
+-- A condition prepared for its tests: where in the file its premise, its transition and its targets stand. That a prepared test says what the
+-- condition says is a law (proofs/Laws/Testing.antt).
+use mathlib.Core.Path.{_≡_}
+use mathlib.Core.Bool.{Bool, true, false, not, cond, _&&_, _||_}
+use mathlib.Core.List.{List, [], _∷_, _++_}
+use Prim.Native.Nat.{ℕ, zero, suc, _+_, _-_, _≤_, _<_}
+use lib.ListN.{length, getD, take, replicate}
+use lib.Dec.{eqb}
+use lib.IntN.{ℤ}
+use Rattle.parsing.specs.declared.outline.Outline.{Outline}
+use Rattle.parsing.specs.Record.{fieldC}
+use Rattle.parsing.specs.Kind.{truth as truthSort}
+use Rattle.parsing.specs.Search.{any}
+use Rattle.parsing.specs.Section.{nodeOf, transitionOf}
+use Rattle.parsing.specs.Place.{tabulate, placesOf}
+use Rattle.reading.specs.Edge.{transitionAt}
+use Rattle.evaluating.specs.Expression.{partAt, holdsOf, Fits}
+use Rattle.evaluating.specs.State.{Within}
+use Rattle.evaluating.specs.Transition.{guardOf, enabledOf, successorOf, TransitionFits}
+use Rattle.conditions.specs.Edges.{carries, isDouble}
+use Rattle.testing.specs.Diagram.{nodeAt, claimedAt, qAt}
+use Rattle.runs.specs.Truth.{implies}
+use Rattle.conditions.specs.declared.Condition.{Condition}
+use Rattle.conditions.specs.declared.Condition.the-variants.{Start, Entry, Cover, Range, Step, Enabling}
+use Rattle.testing.specs.declared.Conclusion.{Conclusion}
+use Rattle.testing.specs.declared.Targets.{Targets}
+use Rattle.testing.specs.declared.Test.{Test}
+
+-- ---- the targets of a condition
+-- the nodes that a step of transition t from node n may lead to: targets of its edges, and node n itself where it may keep it
+unfoldable pub marksOf : List ℕ → Outline → ℕ → ℕ → Bool → List Bool
+marksOf file o n t keep =
+    tabulate (λ j. (keep && eqb j n) || any (λ e. carries file n t e && eqb (fieldC file e) j) (o .edges) (o .edge)) 32 0
+
+-- where the assertions of the marked among the n nodes from `at` on stand
+unfoldable pub chosenFrom : List Bool → List ℕ → ℕ → ℕ → List ℕ
+chosenFrom marks nodes zero at = []
+chosenFrom marks nodes (suc n) at =
+    cond (getD marks at false) ((getD nodes at 0 + 1) ∷ chosenFrom marks nodes n (at + 1)) (chosenFrom marks nodes n (at + 1))
+
+-- a list of places as 32 of them, zeros beyond
+unfoldable pub targetsOf : List ℕ → Targets
+targetsOf list = record { places = list ++ replicate (32 - length list) 0; count = length list }
+
+unfoldable pub chosenOf : List Bool → List ℕ → ℕ → Targets
+chosenOf marks nodes n = targetsOf (chosenFrom marks nodes n 0)
+
+-- where the nodes and the transitions stand
+unfoldable pub nodesOf : List ℕ → Outline → List ℕ
+nodesOf file o = placesOf (nodeOf file (o .vars)) (o .nodes) (o .node)
+
+unfoldable pub transitionsOf : List ℕ → Outline → List ℕ
+transitionsOf file o = placesOf (transitionOf file (o .vars)) (o .transitions) (o .transition)
+
+-- ---- the test of a condition
+unfoldable pub preparedOf : ℕ → Conclusion → ℕ → Targets → Test
+preparedOf premise conclusion transition targets =
+    record { premise = premise; conclusion = conclusion; transition = transition; targets = targets .places; count = targets .count }
+
+unfoldable pub testOf : List ℕ → Outline → Condition → Test
+testOf file o Start = preparedOf (o .vars + 1) Conclusion.SomeTarget 0 (chosenOf (replicate 32 true) (nodesOf file o) (o .nodes))
+testOf file o Entry = preparedOf (claimedAt file o 0) Conclusion.SomeTarget 0 (chosenOf (replicate 32 true) (nodesOf file o) (o .nodes))
+testOf file o (Cover n) = preparedOf (nodeAt file o n + 1) Conclusion.SomeTarget 0 (targetsOf (qAt file o n ∷ []))
+testOf file o (Range n t) = preparedOf (nodeAt file o n + 1) Conclusion.InRange (transitionAt file o t) (targetsOf [])
+testOf file o (Step n t) =
+    preparedOf (nodeAt file o n + 1) Conclusion.Reached (transitionAt file o t)
+    (chosenOf (marksOf file o n t (not (isDouble file o n t))) (nodesOf file o) (o .nodes))
+testOf file o (Enabling n t) = preparedOf (nodeAt file o n + 1) Conclusion.Enabled (transitionAt file o t) (targetsOf [])
+
+-- one of the truths at the places listed holds
+unfoldable pub someHolds : List ℕ → List ℕ → List ℤ → Bool
+someHolds file [] state = false
+someHolds file (at ∷ places) state = holdsOf file at state || someHolds file places state
+
+abbrev pub targetsListed : Test → List ℕ
+targetsListed test = take (test .count) (test .targets)
+
+-- what the premise must imply
+unfoldable pub concludesOf : List ℤ → List ℤ → List ℕ → Test → Conclusion → List ℤ → Bool
+concludesOf lows highs file test Conclusion.SomeTarget state = someHolds file (targetsListed test) state
+concludesOf lows highs file test Conclusion.InRange state =
+    implies (guardOf file (test .transition) state) (enabledOf lows highs file (test .transition) state)
+concludesOf lows highs file test Conclusion.Reached state =
+    implies (enabledOf lows highs file (test .transition) state) (someHolds file (targetsListed test) (successorOf file (test .transition) state))
+concludesOf lows highs file test Conclusion.Enabled state = enabledOf lows highs file (test .transition) state
+
+unfoldable pub passesOf : List ℤ → List ℤ → List ℕ → Test → List ℤ → Bool
+passesOf lows highs file test state = implies (holdsOf file (test .premise) state) (concludesOf lows highs file test (test .conclusion) state)
+
+-- ---- what the code asks: what a test speaks of can be evaluated at every state
+abbrev pub TruthFits : List ℤ → List ℤ → List ℕ → ℕ → Type 0
+TruthFits lows highs file at = (state : List ℤ) → Within lows highs state → Fits 16 truthSort (partAt file at) state
+
+pub record TestFits (lows highs : List ℤ) (file : List ℕ) (test : Test) : Type 0 where
+  pub premise : TruthFits lows highs file (test .premise)
+  pub few : test .count ≤ 32
+  pub targets : (i : ℕ) → i < test .count → TruthFits lows highs file (getD (test .targets) i 0)
+  pub transition : (test .conclusion ≡ Conclusion.SomeTarget → ⊥)
+      → (state : List ℤ) → Within lows highs state → TransitionFits file (test .transition) state

@@ -17,11 +17,11 @@ use Rattle.reading.specs.Interval
 use Rattle.reading.proofs.Files
 use Rattle.reading.proofs.Files.{agree, range, transition, assignment, constant, variable, plain}
 use Rattle.evaluating.specs.declared.transitions.Stepped.{Stepped}
-use Rattle.evaluating.specs.Expression
-use Rattle.evaluating.specs.State
-use Rattle.evaluating.specs.State.{lowsOf, highsOf}
-use Rattle.evaluating.specs.Number
-use Rattle.evaluating.specs.Number.{countOf, stateOf, numberOf, advanceOf}
+use Rattle.expressions.specs.Expression
+use Rattle.states.specs.State
+use Rattle.states.specs.State.{lowsOf, highsOf}
+use Rattle.states.specs.Number
+use Rattle.states.specs.Number.{countOf, stateOf, numberOf, advanceOf}
 use Rattle.evaluating.specs.Transition
 use Rattle.evaluating.specs.Transition.{successorOf, stepOf}
 
@@ -376,6 +376,6 @@ steps-hold : Answers stepsOf steps
 unfolding flatten Bytes.signed16 Record.kindIs Kind.within Kind.formOf Kind.signatureOf Walk.spans Walk.span Place.tabulate Interval.combine
     Expression.first Expression.second Expression.compareOf
     Expression.numberBy Expression.truthBy Expression.number Expression.truth State.endsOf
-    Transition.behind Transition.assignmentAt Transition.assignmentsFrom Transition.inRangeOf Transition.allInRange Transition.assigned
+    Expression.behind Transition.assignmentAt Transition.assignmentsFrom Transition.inRangeOf Transition.allInRange Transition.assigned
     Transition.guardOf Transition.assignmentsOf Transition.enabledOf Transition.successorOf Transition.stepOf
 steps-hold = answers stepsOf steps refl

@@ -1,5 +1,2 @@
--- What expressions are worth in a state, which states there are, and what a transition does.
-pub mod Expression
-pub mod State
-pub mod Number
+-- What a transition does.
 pub mod Transition

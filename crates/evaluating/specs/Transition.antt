@@ -9,15 +9,11 @@ use lib.IntN.{ℤ, pos}
 use Rattle.integers.specs.Interval.{between}
 use Rattle.parsing.specs.Record.{fieldA, kindIs}
 use Rattle.parsing.specs.Kind.{number as numberSort, truth as truthSort}
-use Rattle.parsing.specs.Walk.{span}
-use Rattle.evaluating.specs.Expression.{partAt, number, truth, Fits}
+use Rattle.expressions.specs.Expression.{partAt, number, truth, Fits}
 use Rattle.evaluating.specs.declared.transitions.Assignment.{Assignment}
 use Rattle.evaluating.specs.declared.transitions.Assigned.{Assigned}
 use Rattle.evaluating.specs.declared.transitions.Stepped.{Stepped}
-
--- the record behind the expression at record `at`
-unfoldable pub behind : List ℕ → ℕ → ℕ
-behind file at = at + span 16 (partAt file at)
+use Rattle.expressions.specs.Expression.{behind}
 
 -- ---- the assignments of a transition
 -- "04 assignment to variable a, then a number expression": at record `at`, worked out from the state

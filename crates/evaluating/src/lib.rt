@@ -1,5 +1,2 @@
-// What expressions are worth in a state, which states there are, and what a transition does.
-pub mod expressions;
-pub mod spans;
-pub mod states;
+// What a transition does.
 pub mod transitions;

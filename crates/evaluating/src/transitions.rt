@@ -1,6 +1,6 @@
 // What a transition does at a state. A transition stands at a record; its guard follows, then its assignments.
-use crate::expressions::number_at;
-use crate::expressions::truth_at;
+use expressions::number_at;
+use expressions::truth_at;
 use integers::state::between;
 use integers::state::element;
 use parsing::records::byte_at;
@@ -10,7 +10,7 @@ ghost use mathlib.Core.Bool.{true};
 ghost use Prim.Native.Nat.{_+_, _/_, _<_};
 ghost use lib.ListN.{length, set};
 ghost use Rattle.parsing.specs.Kind.{number as numberSort};
-ghost use Rattle.evaluating.specs.Expression.{partAt, Fits, Spans};
+ghost use Rattle.expressions.specs.Expression.{partAt, Fits, Spans};
 ghost use Rattle.evaluating.specs.Transition.{assignmentAt, assignmentsFrom, inRangeOf, assignOf, stepOf, AssignmentsFit, TransitionFits};
 
 // A variable, the value that it is assigned, and the record behind the assignment.

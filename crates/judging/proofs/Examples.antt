@@ -23,9 +23,9 @@ use Rattle.reading.specs.Edge
 use Rattle.reading.specs.Read
 use Rattle.reading.specs.Read.{readOf}
 use Rattle.reading.proofs.Files.{agree, bytes, range, single, constant, variable, plain, A, B, C, D, E, F, G, H, I, J}
-use Rattle.evaluating.specs.Expression
-use Rattle.evaluating.specs.State
-use Rattle.evaluating.specs.Number
+use Rattle.expressions.specs.Expression
+use Rattle.states.specs.State
+use Rattle.states.specs.Number
 use Rattle.evaluating.specs.Transition
 use Rattle.conditions.specs.Search as First
 use Rattle.conditions.specs.Edges
@@ -161,7 +161,7 @@ unfolding flatten Bytes.signed16 Bytes.lowByte Bytes.highByte Ends.minZ Ends.max
     Expression.first Expression.second Expression.indicatorOf Expression.connectOf Expression.compareOf
     Expression.numberBy Expression.truthBy Expression.number Expression.truth Expression.holdsOf
     State.endsOf Number.sizeOf Number.countOf Number.stateOf
-    Transition.behind Transition.assignmentAt Transition.assignmentsFrom Transition.inRangeOf Transition.allInRange Transition.assigned
+    Expression.behind Transition.assignmentAt Transition.assignmentsFrom Transition.inRangeOf Transition.allInRange Transition.assigned
     Transition.guardOf Transition.assignmentsOf Transition.enabledOf Transition.successorOf
     First.firstFrom First.first
     Diagram.startHolds Diagram.nodeAt Diagram.nodeHolds Diagram.claimedAt Diagram.pHolds Diagram.qAt Diagram.qHolds Edges.carries Edges.isDouble

@@ -14,7 +14,7 @@ use native.Mathlib.Omega.{arith}
 use lib.Dec.{T}
 use lib.IntN.{ℤ}
 use Rattle.parsing.specs.declared.outline.Outline.{Outline}
-use Rattle.evaluating.specs.State.{State}
+use Rattle.states.specs.State.{State}
 use Rattle.evaluating.proofs.Laws.Readable as readable
 use Rattle.testing.specs.Diagram.{startHolds, pHolds, qHolds}
 use Rattle.judging.specs.Verdict.{statesOf, stateAt, checkOf}

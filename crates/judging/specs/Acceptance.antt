@@ -16,8 +16,8 @@ use Rattle.reading.specs.declared.Reading.{Reading}
 use Rattle.reading.specs.Edge.{double, diagram}
 use Rattle.reading.specs.Read.{readOf}
 use Rattle.evaluating.specs.declared.transitions.Stepped.{Stepped}
-use Rattle.evaluating.specs.Expression.{partAt, holdsOf, Fits, Spans}
-use Rattle.evaluating.specs.State.{lowsOf, highsOf, Within}
+use Rattle.expressions.specs.Expression.{partAt, holdsOf, Fits, Spans}
+use Rattle.states.specs.State.{lowsOf, highsOf, Within}
 use Rattle.evaluating.specs.Transition.{stepOf, TransitionFits}
 use Rattle.testing.specs.Diagram.{claimedAt, qAt}
 use Rattle.conditions.specs.Condition.{each, movesOf, totalOf, conditionAt}

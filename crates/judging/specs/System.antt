@@ -8,7 +8,7 @@ use Rattle.parsing.specs.Record.{fieldB}
 use Rattle.reading.specs.declared.Reading.{Reading}
 use Rattle.reading.specs.Edge.{diagram, justOf}
 use Rattle.reading.specs.Read.{readOf}
-use Rattle.evaluating.specs.State.{State}
+use Rattle.states.specs.State.{State}
 use Rattle.testing.specs.Diagram.{startHolds, nodeHolds, pHolds, qHolds}
 use Rattle.testing.specs.Holding.{guardHolds, valuesFit, nextState}
 use Rattle.runs.specs.Run.{System}

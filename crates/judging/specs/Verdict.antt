@@ -8,8 +8,8 @@ use lib.IntN.{ℤ, pos}
 use Rattle.parsing.specs.declared.outline.Outline.{Outline}
 use Rattle.reading.specs.declared.Reading.{Reading}
 use Rattle.reading.specs.Read.{readOf}
-use Rattle.evaluating.specs.State.{lowsOf, highsOf}
-use Rattle.evaluating.specs.Number.{countOf, stateOf}
+use Rattle.states.specs.State.{lowsOf, highsOf}
+use Rattle.states.specs.Number.{countOf, stateOf}
 use Rattle.conditions.specs.Search.{first}
 use Rattle.conditions.specs.Condition.{totalOf, conditionAt, refusalNumber, nodeNumber, transitionNumber}
 use Rattle.testing.specs.Holding.{conditionHolds}

@@ -1,13 +1,13 @@
 // The conditions that are true, in one pass over the states: what several conditions speak of at a state, a node's assertion or a transition's step, is
 // worked out once for all of them.
 use conditions::Blocks;
-use evaluating::expressions::holds;
-use evaluating::states::advance;
 use evaluating::transitions::Stepped;
 use evaluating::transitions::step;
+use expressions::holds;
 use parsing::outline::Outline;
 use parsing::records::byte_at;
 use parsing::records::word_at;
+use states::advance;
 use testing::claimed_at;
 use testing::q_at;
 ghost use mathlib.Core.Path.{_≡_};
@@ -16,8 +16,8 @@ ghost use lib.ListN.{length, getD};
 ghost use Rattle.reading.specs.declared.Reading.{Reading};
 ghost use Rattle.reading.specs.Read.{readOf};
 ghost use Rattle.parsing.specs.Kind.{truth as truthSort};
-ghost use Rattle.evaluating.specs.Expression.{partAt, Fits, Spans};
-ghost use Rattle.evaluating.specs.State.{Within, State};
+ghost use Rattle.expressions.specs.Expression.{partAt, Fits, Spans};
+ghost use Rattle.states.specs.State.{Within, State};
 ghost use Rattle.conditions.specs.Layout.{layoutOf};
 ghost use Rattle.judging.specs.Verdict.{statesOf};
 ghost use Rattle.conditions.specs.Edges.{pairAt};

@@ -1,11 +1,7 @@
 // Judging a file: the check of every condition at every state, with its report, and the test of one condition at one state.
 use conditions::condition_at;
 use conditions::total;
-use evaluating::spans::spans_of;
-use evaluating::states::count;
-use evaluating::states::highs;
-use evaluating::states::lows;
-use evaluating::states::state_of;
+use expressions::spans::spans_of;
 use parsing::outline::Outline;
 use parsing::sections::node_places;
 use parsing::sections::transition_places;
@@ -13,6 +9,10 @@ use reading::Reading;
 use reading::read;
 use report::Verdict;
 use report::write_report;
+use states::count;
+use states::highs;
+use states::lows;
+use states::state_of;
 use testing::passes;
 use testing::test_of;
 use verdicts::Single;

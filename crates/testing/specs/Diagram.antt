@@ -9,7 +9,7 @@ use Rattle.parsing.specs.Walk.{inSequence, truthOf}
 use Rattle.parsing.specs.Section.{nodeOf}
 use Rattle.parsing.specs.Place.{placeOf}
 use Rattle.reading.specs.Edge.{diagram}
-use Rattle.evaluating.specs.Expression.{holdsOf}
+use Rattle.expressions.specs.Expression.{holdsOf}
 
 -- ---- truths of a state
 -- "02 start, then a truth expression": a starting state is one where the start is true

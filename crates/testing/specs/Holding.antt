@@ -7,7 +7,7 @@ use Rattle.parsing.specs.declared.outline.Outline.{Outline}
 use Rattle.parsing.specs.Record.{fieldC}
 use Rattle.parsing.specs.Search.{any}
 use Rattle.reading.specs.Edge.{transitionAt}
-use Rattle.evaluating.specs.State.{lowsOf, highsOf}
+use Rattle.states.specs.State.{lowsOf, highsOf}
 use Rattle.evaluating.specs.Transition.{guardOf, assignmentsOf, allInRange, enabledOf, successorOf}
 use Rattle.conditions.specs.Edges.{carries, isDouble}
 use Rattle.testing.specs.Diagram.{startHolds, nodeHolds, pHolds, qHolds}

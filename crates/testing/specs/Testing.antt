@@ -14,8 +14,8 @@ use Rattle.parsing.specs.Search.{any}
 use Rattle.parsing.specs.Section.{nodeOf, transitionOf}
 use Rattle.parsing.specs.Place.{tabulate, placesOf}
 use Rattle.reading.specs.Edge.{transitionAt}
-use Rattle.evaluating.specs.Expression.{partAt, holdsOf, Fits}
-use Rattle.evaluating.specs.State.{Within}
+use Rattle.expressions.specs.Expression.{partAt, holdsOf, Fits}
+use Rattle.states.specs.State.{Within}
 use Rattle.evaluating.specs.Transition.{guardOf, enabledOf, successorOf, TransitionFits}
 use Rattle.conditions.specs.Edges.{carries, isDouble}
 use Rattle.testing.specs.Diagram.{nodeAt, claimedAt, qAt}

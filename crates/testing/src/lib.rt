@@ -1,8 +1,8 @@
 // The test of a condition at a state. A condition is prepared once: what does not depend on the state is looked up before its first test.
 use conditions::Condition;
 use conditions::double_of;
-use evaluating::expressions::holds;
 use evaluating::transitions::step;
+use expressions::holds;
 use parsing::outline::Outline;
 use parsing::records::byte_at;
 use parsing::records::word_at;
@@ -15,8 +15,8 @@ ghost use lib.ListN.{length, getD, take};
 ghost use Rattle.reading.specs.declared.Reading.{Reading};
 ghost use Rattle.reading.specs.Read.{readOf};
 ghost use Rattle.parsing.specs.Kind.{truth as truthSort};
-ghost use Rattle.evaluating.specs.Expression.{partAt, Fits, Spans};
-ghost use Rattle.evaluating.specs.State.{Within};
+ghost use Rattle.expressions.specs.Expression.{partAt, Fits, Spans};
+ghost use Rattle.states.specs.State.{Within};
 ghost use Rattle.conditions.specs.Edges.{carries};
 ghost use Rattle.testing.specs.Diagram.{claimedAt, qAt};
 ghost use Rattle.conditions.specs.Condition.{Listed};

@@ -29,13 +29,15 @@ use Rattle.reading.specs.Read.{readOf}
 use Rattle.reading.specs.Readable.{Expression, Apart, Assignments}
 use Rattle.reading.proofs.Laws.Expression.{expression-span, expression-within}
 use Rattle.reading.proofs.Laws.Readable as readable
-use Rattle.evaluating.specs.Expression.{partAt, Fits}
-use Rattle.evaluating.specs.State.{lowsOf, highsOf, Ranges, State}
-use Rattle.evaluating.specs.Number.{countOf, stateOf, numberOf, advanceOf}
-use Rattle.evaluating.specs.Transition.{behind, assignmentAt, assignmentsFrom, allInRange, guardOf, assignmentsOf, enabledOf, successorOf, AssignmentsFit, TransitionFits}
-use Rattle.evaluating.proofs.Laws.Sound.{expression-fits}
-use Rattle.evaluating.proofs.Laws.State.{ends-at, ranges-file, within-at}
-use Rattle.evaluating.proofs.Laws.Number.{number-below, state-of-number, number-of-state, state-within, first-state, advance-next, count-file}
+use Rattle.expressions.specs.Expression.{partAt, Fits}
+use Rattle.states.specs.State.{lowsOf, highsOf, Ranges, State}
+use Rattle.states.specs.Number.{countOf, stateOf, numberOf, advanceOf}
+use Rattle.expressions.specs.Expression.{behind}
+use Rattle.evaluating.specs.Transition.{assignmentAt, assignmentsFrom, allInRange, guardOf, assignmentsOf, enabledOf, successorOf, AssignmentsFit, TransitionFits}
+use Rattle.expressions.proofs.Laws.Sound.{expression-fits}
+use Rattle.states.proofs.Laws.State.{ends-at, ranges-file, within-at}
+use Rattle.evaluating.proofs.Laws.Count.{count-file}
+use Rattle.states.proofs.Laws.Number.{number-below, state-of-number, number-of-state, state-within, first-state, advance-next}
 use Rattle.evaluating.proofs.Laws.Transition.{variables, Unassigned, Once, assigned-within}
 
 -- ---- a transition's assignments

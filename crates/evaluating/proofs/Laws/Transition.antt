@@ -13,9 +13,9 @@ use lib.Seq.{getD-set-same, getD-set-other}
 use lib.Signed.{leZ, _≤ℤ_}
 use Rattle.integers.proofs.Laws.Parts.{ints}
 use Rattle.evaluating.specs.declared.transitions.Assignment.{Assignment}
-use Rattle.evaluating.specs.State.{Within}
+use Rattle.states.specs.State.{Within}
 use Rattle.evaluating.specs.Transition.{inRangeOf, allInRange, assigned}
-use Rattle.evaluating.proofs.Laws.State.{within-set}
+use Rattle.states.proofs.Laws.State.{within-set}
 
 module _ (lows highs : List ℤ) where
   pub in-range-ends : (i : ℕ) (x : ℤ) → inRangeOf lows highs i x ≡ true → (getD lows i (pos 0) ≤ℤ x) × (x ≤ℤ getD highs i (pos 0))

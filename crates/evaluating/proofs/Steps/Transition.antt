@@ -5,13 +5,14 @@ use mathlib.Core.Bool.{true, false}
 use Prim.Native.Nat.{ℕ, zero, suc, _+_, _/_, _<_}
 use lib.IntN.{ℤ}
 use lib.ListN.{length, set}
-use Rattle.evaluating.specs.Expression.{partAt, Fits}
+use Rattle.expressions.specs.Expression.{partAt, Fits}
 use Rattle.parsing.specs.Record.{fieldA, kindIs}
 use Rattle.parsing.specs.Kind.{number as numberSort}
 use Rattle.evaluating.specs.declared.transitions.Assignment.{Assignment}
 use Rattle.evaluating.specs.declared.transitions.Assigned.{Assigned}
 use Rattle.evaluating.specs.declared.transitions.Stepped.{Stepped}
-use Rattle.evaluating.specs.Transition.{behind, assignmentAt, assignmentsFrom, inRangeOf, allInRange, assigned, guardOf, assignmentsOf, enabledOf, successorOf, assignOf, stepOf, AssignmentsFit}
+use Rattle.expressions.specs.Expression.{behind}
+use Rattle.evaluating.specs.Transition.{assignmentAt, assignmentsFrom, inRangeOf, allInRange, assigned, guardOf, assignmentsOf, enabledOf, successorOf, assignOf, stepOf, AssignmentsFit}
 
 -- ---- the assignments from a record on
 module _ (file : List ℕ) (at : ℕ) (state : List ℤ) where

@@ -26,8 +26,8 @@ use Rattle.reading.specs.Edge.{double, diagram, transitionAt}
 use Rattle.reading.specs.Read.{readOf}
 use Rattle.reading.proofs.Laws.Readable as readable
 use Rattle.evaluating.specs.declared.transitions.Stepped.{Stepped}
-use Rattle.evaluating.specs.Expression.{partAt, holdsOf, Fits}
-use Rattle.evaluating.specs.State.{lowsOf, highsOf, State}
+use Rattle.expressions.specs.Expression.{partAt, holdsOf, Fits}
+use Rattle.states.specs.State.{lowsOf, highsOf, State}
 use Rattle.evaluating.specs.Transition.{guardOf, assignmentsOf, allInRange, enabledOf, successorOf, stepOf}
 use Rattle.evaluating.proofs.Laws.Readable as evaluable
 use Rattle.conditions.specs.Edges.{carries, isDouble}

@@ -19,7 +19,7 @@ use Rattle.parsing.specs.declared.outline.Outline.{Outline}
 use Rattle.reading.specs.declared.Reading.{Reading}
 use Rattle.reading.specs.Read.{readOf}
 use Rattle.reading.proofs.Laws.Refusal.{read-refuses}
-use Rattle.evaluating.proofs.Laws.State.{within-length, ends-length}
+use Rattle.states.proofs.Laws.State.{within-length, ends-length}
 use Rattle.conditions.specs.Condition.{Listed}
 use Rattle.judging.specs.Verdict.{unnamedOf, judgedOf, verdictBy, checkOf}
 use Rattle.judging.specs.Report.{reportOf}

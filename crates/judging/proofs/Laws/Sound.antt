@@ -19,7 +19,7 @@ use Rattle.reading.specs.Edge.{diagram, double, justOf}
 use Rattle.reading.specs.Read.{readOf}
 use Rattle.reading.specs.Readable.{DoubleTransition}
 use Rattle.reading.proofs.Laws.Readable as readable
-use Rattle.evaluating.specs.State.{State}
+use Rattle.states.specs.State.{State}
 use Rattle.evaluating.specs.Transition.{enabledOf}
 use Rattle.conditions.specs.Edges.{carries, isDouble}
 use Rattle.testing.specs.Diagram.{nodeHolds, pHolds, qAt, qHolds, startHolds}

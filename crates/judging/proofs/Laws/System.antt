@@ -14,7 +14,7 @@ use Rattle.parsing.specs.declared.outline.Outline.{Outline}
 use Rattle.reading.specs.declared.Reading.{Reading}
 use Rattle.reading.specs.Edge.{transitionAt}
 use Rattle.reading.specs.Read.{readOf}
-use Rattle.evaluating.specs.State.{State}
+use Rattle.states.specs.State.{State}
 use Rattle.evaluating.specs.Transition.{enabledOf}
 use Rattle.evaluating.proofs.Laws.Readable as readable
 use Rattle.testing.specs.Holding.{guardHolds, valuesFit, nextState}

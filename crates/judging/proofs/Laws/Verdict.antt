@@ -18,8 +18,8 @@ use lib.Dec.{ltb}
 use Rattle.parsing.specs.declared.outline.Outline.{Outline}
 use Rattle.reading.specs.declared.Reading.{Reading}
 use Rattle.reading.specs.Read.{readOf}
-use Rattle.evaluating.specs.State.{lowsOf, highsOf, State}
-use Rattle.evaluating.specs.Number.{numberOf}
+use Rattle.states.specs.State.{lowsOf, highsOf, State}
+use Rattle.states.specs.Number.{numberOf}
 use Rattle.evaluating.proofs.Laws.Readable.{numbered, number}
 use Rattle.conditions.specs.Condition.{conditionsOf, totalOf, conditionAt, Listed, refusalNumber, nodeNumber, transitionNumber}
 use Rattle.testing.specs.Holding.{conditionHolds}

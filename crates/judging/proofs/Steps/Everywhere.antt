@@ -15,8 +15,8 @@ use Rattle.parsing.specs.Kind.{truth as truthSort}
 use Rattle.reading.specs.declared.Reading.{Reading}
 use Rattle.reading.specs.Read.{readOf}
 use Rattle.reading.proofs.Laws.Readable.{nodes-within}
-use Rattle.evaluating.specs.Expression.{partAt, Fits, Spans}
-use Rattle.evaluating.specs.State.{State, Within}
+use Rattle.expressions.specs.Expression.{partAt, Fits, Spans}
+use Rattle.states.specs.State.{State, Within}
 use Rattle.conditions.specs.Layout.{layoutOf}
 use Rattle.conditions.specs.Search.{first}
 use Rattle.judging.specs.Verdict.{statesOf, stateAt}

@@ -10,8 +10,8 @@ use lib.ListN.{getD}
 use lib.IntN.{ℤ}
 use Rattle.parsing.specs.Search.{any}
 use Rattle.evaluating.specs.declared.transitions.Stepped.{Stepped}
-use Rattle.evaluating.specs.Expression.{holdsOf}
-use Rattle.evaluating.specs.State.{Within}
+use Rattle.expressions.specs.Expression.{holdsOf}
+use Rattle.states.specs.State.{Within}
 use Rattle.evaluating.specs.Transition.{stepOf}
 use Rattle.runs.specs.Truth.{implies}
 use Rattle.judging.specs.Acceptance.{every, reachedOf, pairHolds}

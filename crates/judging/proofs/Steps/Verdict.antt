@@ -16,11 +16,11 @@ use Rattle.parsing.proofs.Laws.Section.{kind-here}
 use Rattle.reading.specs.declared.Reading.{Reading}
 use Rattle.reading.specs.Read.{readOf}
 use Rattle.reading.proofs.Laws.Readable.{small, variables-within, transitions-within, nodes-within, node, fits}
-use Rattle.evaluating.specs.Expression.{spansOf, Spans}
-use Rattle.evaluating.specs.State.{lowsOf, highsOf, Ranges, Within, State, Idle}
-use Rattle.evaluating.specs.Number.{countOf, stateOf, advanceOf}
-use Rattle.evaluating.proofs.Laws.Span.{spans-right}
-use Rattle.evaluating.proofs.Laws.State.{states-idle}
+use Rattle.expressions.specs.Expression.{spansOf, Spans}
+use Rattle.states.specs.State.{lowsOf, highsOf, Ranges, Within, State, Idle}
+use Rattle.states.specs.Number.{countOf, stateOf, advanceOf}
+use Rattle.expressions.proofs.Laws.Span.{spans-right}
+use Rattle.states.proofs.Laws.State.{states-idle}
 use Rattle.evaluating.proofs.Laws.Readable.{ranges, states-within, numbered, first, next}
 use Rattle.conditions.specs.Condition.{totalOf, conditionAt, Listed, nodeNumber, transitionNumber}
 use Rattle.testing.specs.Holding.{conditionHolds}

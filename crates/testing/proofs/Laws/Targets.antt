@@ -32,7 +32,7 @@ use Rattle.reading.specs.Edge.{diagram, transitionAt}
 use Rattle.reading.specs.Read.{readOf}
 use Rattle.reading.proofs.Laws.Expression.{expression-within}
 use Rattle.reading.proofs.Laws.Readable as readable
-use Rattle.evaluating.specs.Expression.{holdsOf}
+use Rattle.expressions.specs.Expression.{holdsOf}
 use Rattle.conditions.specs.Edges.{carries}
 use Rattle.testing.specs.Diagram.{nodeAt, nodeHolds, claimedAt, qAt}
 use Rattle.testing.specs.Holding.{someNode, someTarget}

@@ -18,8 +18,8 @@ use Rattle.reading.specs.declared.Reading.{Reading}
 use Rattle.reading.specs.Edge.{diagram, transitionAt}
 use Rattle.reading.specs.Read.{readOf}
 use Rattle.reading.proofs.Laws.Readable as readable
-use Rattle.evaluating.specs.Expression.{holdsOf}
-use Rattle.evaluating.specs.State.{lowsOf, highsOf, Within}
+use Rattle.expressions.specs.Expression.{holdsOf}
+use Rattle.states.specs.State.{lowsOf, highsOf, Within}
 use Rattle.evaluating.specs.Transition.{guardOf, assignmentsOf, allInRange, enabledOf, successorOf, TransitionFits}
 use Rattle.evaluating.proofs.Laws.Readable as evaluable
 use Rattle.conditions.specs.Edges.{isDouble}

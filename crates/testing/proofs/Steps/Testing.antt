@@ -21,8 +21,8 @@ use Rattle.reading.specs.Edge.{transitionAt}
 use Rattle.reading.specs.Read.{readOf}
 use Rattle.reading.proofs.Laws.Readable as readable
 use Rattle.evaluating.specs.declared.transitions.Stepped.{Stepped}
-use Rattle.evaluating.specs.Expression.{holdsOf}
-use Rattle.evaluating.specs.State.{Within}
+use Rattle.expressions.specs.Expression.{holdsOf}
+use Rattle.states.specs.State.{Within}
 use Rattle.evaluating.specs.Transition.{guardOf, assignmentsOf, allInRange, enabledOf, successorOf, stepOf}
 use Rattle.evaluating.proofs.Laws.Transition.{assigned-within}
 use Rattle.conditions.specs.declared.Condition.{Condition}

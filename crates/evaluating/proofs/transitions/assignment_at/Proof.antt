@@ -6,8 +6,8 @@ use mir.Syntax.{w64}
 use Rattle.integers.proofs.Laws.Parts.{back}
 use Rattle.parsing.specs.Kind.{number as numberSort}
 use Rattle.evaluating.specs.Transition.{assignmentAt}
-use Rattle.evaluating.proofs.Laws.Expression.{fits-here}
-use Rattle.evaluating.proofs.Steps.Part.{take-rest, lent, entry, behind-is, behind-within}
+use Rattle.expressions.proofs.Laws.Expression.{fits-here}
+use Rattle.expressions.proofs.Steps.Part.{take-rest, lent, entry, behind-is, behind-within}
 use borrow.Author.Needs.{needs}
 use Rattle.evaluating.proofs.transitions.assignment_at.Statement.{statement}
 use Rattle.evaluating.proofs.transitions.assignment_at.Tie as tie

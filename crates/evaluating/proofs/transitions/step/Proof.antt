@@ -6,8 +6,8 @@ use lib.ListN.{length, getD}
 use borrow.Author.Tests.{not-true, not-false}
 use Rattle.parsing.specs.Kind.{truth as truthSort}
 use Rattle.evaluating.specs.Transition.{guardOf}
-use Rattle.evaluating.proofs.Laws.Expression.{fits-here}
-use Rattle.evaluating.proofs.Steps.Part.{take-rest, lent, entry, behind-is, behind-within}
+use Rattle.expressions.proofs.Laws.Expression.{fits-here}
+use Rattle.expressions.proofs.Steps.Part.{take-rest, lent, entry, behind-is, behind-within}
 use Rattle.evaluating.proofs.Steps.Transition.{step-off, step-on}
 use borrow.Author.Needs.{needs}
 use Rattle.evaluating.proofs.transitions.step.Statement.{statement}

@@ -7,7 +7,7 @@ use Prim.Native.Nat.{_-_}
 use lib.ListN.{getD}
 use borrow.Author.Needs.{needs}
 use borrow.Author.Tests.{not-true, not-false}
-use Rattle.evaluating.specs.Expression.{holdsOf}
+use Rattle.expressions.specs.Expression.{holdsOf}
 use Rattle.runs.specs.Truth.{implies}
 use Rattle.judging.specs.Acceptance.{coversHold}
 use Rattle.judging.proofs.Steps.Pass.{Passed, passed-begin, passed-more, passed-all, passed-fails, implies-idle, implies-asked}

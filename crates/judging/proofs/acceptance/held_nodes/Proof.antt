@@ -6,7 +6,7 @@ use Prim.Native.Nat.{ℕ, _+_, _-_, _≤_}
 use native.Mathlib.Omega.{arith}
 use borrow.Author.Needs.{needs}
 use lib.ListN.{getD}
-use Rattle.evaluating.specs.Expression.{holdsOf}
+use Rattle.expressions.specs.Expression.{holdsOf}
 use Rattle.judging.specs.Acceptance.{heldNodesOf}
 use Rattle.judging.proofs.Steps.Acceptance.{table-none, table-more}
 use Rattle.judging.proofs.acceptance.held_nodes.Statement.{statement}

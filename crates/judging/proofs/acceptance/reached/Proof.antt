@@ -7,7 +7,7 @@ use Prim.Native.Nat.{_+_, _*_, _-_}
 use native.Mathlib.Omega.{arith}
 use lib.ListN.{getD}
 use borrow.Author.Needs.{needs}
-use Rattle.evaluating.specs.Expression.{holdsOf}
+use Rattle.expressions.specs.Expression.{holdsOf}
 use Rattle.judging.specs.Acceptance.{reachedOf}
 use Rattle.judging.proofs.Steps.Pass.{Passed, passed-begin, passed-more, passed-none, passed-some, both-idle, both-asked}
 use Rattle.judging.proofs.acceptance.reached.Statement.{statement}

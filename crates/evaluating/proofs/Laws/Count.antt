@@ -1,0 +1,28 @@
+-- The law of how many states a file has.
+--     count-file     a file has as many states as the product of its ranges says
+-- Assumes nothing.
+use mathlib.Core.Path.{_≡_, refl}
+use mathlib.Core.List.{List}
+use Prim.Native.Nat.{ℕ, zero, suc, _+_, _-_, _≤_}
+use native.Mathlib.Omega.{arith}
+use borrow.Author.Tests.{lt-ltb, le-ltb}
+use Rattle.integers.specs.Radix.{offsetOf}
+use Rattle.parsing.specs.Place.{tabulate}
+use Rattle.reading.specs.States.{productOf, sizeOf as recordSize}
+use Rattle.states.specs.State.{endsOf, lowsOf, highsOf}
+use Rattle.states.specs.Number.{sizeOf, countOf}
+use Rattle.states.proofs.Laws.State.{entry}
+
+module _ (file : List ℕ) (vars : ℕ) where
+  -- of n entries from v on the first `left` are those of variables, and the others have one value
+  count-entries : (n left v : ℕ) → left ≡ vars - v → left ≤ n
+      → countOf (tabulate (entry file vars 2) n v) (tabulate (entry file vars 4) n v) ≡ productOf file left v
+  unfolding countOf tabulate productOf sizeOf recordSize offsetOf
+  count-entries zero zero v e l = refl
+  count-entries zero (suc left) v e l = absurd (omega arith)
+  count-entries (suc n) zero v e l = rw (le-ltb v vars (omega arith), count-entries n zero (v + 1) (omega arith) (omega arith))
+  count-entries (suc n) (suc left) v e l = rw (lt-ltb v vars (omega arith), count-entries n left (v + 1) (omega arith) (omega arith))
+
+  pub count-file : vars ≤ 12 → countOf (lowsOf file vars) (highsOf file vars) ≡ productOf file vars 0
+  unfolding endsOf
+  count-file l = count-entries 12 vars 0 (omega arith) l

@@ -1,0 +1,39 @@
+-- A part lent from a record on, with its table. Assumes nothing.
+use mathlib.Core.Path.{_≡_}
+use mathlib.Core.List.{List}
+use Prim.Native.Nat.{ℕ, _+_, _-_, _*_, _≤_, _<_}
+use native.Mathlib.Omega.{arith}
+use lib.IntN.{ℤ}
+use lib.ListN.{length, getD, take, drop, length-drop}
+use lib.Seq.{take-all}
+use Rattle.expressions.specs.Expression.{partAt, Fits, Spans}
+use Rattle.expressions.specs.Expression.{behind}
+use Rattle.expressions.proofs.Laws.Expression.{fits-within, fits-here}
+use Rattle.expressions.proofs.Laws.Span.{spans-part}
+
+-- `&part[k..]` runs to the part's end
+pub take-rest : (k : ℕ) (part : List ℕ) → take (length part - k) (drop k part) ≡ drop k part
+take-rest k part = take-all (length part - k) (drop k part) (omega (arith, length-drop k part))
+
+-- ---- the expression at a record of a file
+module _ (file table : List ℕ) (s : Spans file table) (want at : ℕ) (state : List ℤ) (h : Fits 16 want (partAt file at) state) where
+  -- it may be handed on
+  pub lent : Fits 16 want (take (length file - 8 * at) (partAt file at)) state
+      × ((8 * at + length (take (length file - 8 * at) (partAt file at)) ≤ 32768)
+      × Spans (take (length file - 8 * at) (partAt file at)) (drop at table))
+  lent = rw (take-rest (8 * at) file)
+      (h, (omega (arith, s .enough, fits-here file at 16 want state h, length-drop (8 * at) file), spans-part file table at s))
+
+  -- the table has an entry for it
+  pub entry : at < 4096
+  entry = omega (arith, s .enough, fits-here file at 16 want state h)
+
+  -- the table says where it ends: within the file
+  pub behind-is : at + getD table at 0 ≡ behind file at
+  unfolding behind
+  behind-is = rw (s .right at 16 want state h)
+
+  pub behind-within : 8 * (at + getD table at 0) ≤ length file
+  behind-within =
+      let w = fits-within 16 want (partAt file at) state h in
+      omega (arith, s .right at 16 want state h, fits-here file at 16 want state h, length-drop (8 * at) file)

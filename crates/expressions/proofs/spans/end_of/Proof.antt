@@ -1,0 +1,29 @@
+-- `expressions::spans::end_of` meets its contract. Assumes nothing.
+use borrow.Author.Needs.{needs}
+use native.Mathlib.Omega.{arith}
+use lib.ListN.{List·getD-eq-default}
+use Rattle.expressions.proofs.spans.end_of.Statement.{statement}
+use Rattle.expressions.proofs.spans.end_of.Tie as tie
+
+mul-result : tie.Need-mul-result
+mul-result c = search needs
+
+shared-slice-read-result : tie.Need-shared-slice-read-result
+shared-slice-read-result c = search needs
+
+cast-result : tie.Need-cast-result
+cast-result c = omega (arith, c .shared-slice-known .given (c .before .before .args .at))
+
+add-result : tie.Need-add-result
+add-result c = omega (arith, c .shared-slice-known .given (c .before .before .args .at))
+
+returns : tie.Need-returns
+returns c = search needs
+
+returns-2 : tie.Need-returns-2
+returns-2 c = omega (arith, List·getD-eq-default (c .before .args .spans .now) 0 (c .if1 .left))
+
+pub end-of-spec : {M : Type 1} → statement M
+end-of-spec =
+    tie.close
+    (tie.spec mul-result shared-slice-read-result cast-result add-result returns returns-2)

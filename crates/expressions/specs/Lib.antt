@@ -1,0 +1,2 @@
+-- What expressions are worth in a state.
+pub mod Expression

@@ -1,0 +1,3 @@
+-- What the proofs of the code share.
+pub mod State
+pub mod Number

@@ -1,0 +1,3 @@
+-- Which states there are, and their numbers.
+pub mod State
+pub mod Number

@@ -4,8 +4,8 @@ use mathlib.Core.List.{List}
 use Prim.Native.Nat.{ℕ, _+_, _*_}
 use lib.Dec.{eqb}
 use Rattle.parsing.specs.declared.outline.Outline.{Outline}
-use Rattle.parsing.specs.Record.{fieldA, fieldB}
-use Rattle.parsing.specs.Search.{any}
+use Rattle.records.specs.Record.{fieldA, fieldB}
+use Rattle.records.specs.Search.{any}
 use Rattle.reading.specs.Edge.{double}
 
 -- the edge at record e is one of transition t from node n: "an edge so labelled from it"

@@ -1,7 +1,7 @@
 // The verification conditions of a diagram: how many there are, and the condition of a number.
 use parsing::outline::Outline;
-use parsing::records::byte_at;
 use reading::edges::double_from;
+use records::byte_at;
 ghost use mathlib.Core.Path.{_≡_};
 ghost use Prim.Native.Nat.{_<_};
 ghost use Rattle.reading.specs.declared.Reading.{Reading};

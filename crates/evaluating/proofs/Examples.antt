@@ -9,10 +9,10 @@ use lib.ListN.{length, take, drop, replicate}
 use Rattle.integers.specs.Bytes
 use Rattle.integers.specs.Radix
 use Rattle.integers.specs.Tests
-use Rattle.parsing.specs.Record
-use Rattle.parsing.specs.Kind
-use Rattle.parsing.specs.Walk
-use Rattle.parsing.specs.Place
+use Rattle.records.specs.Record
+use Rattle.records.specs.Kind
+use Rattle.records.specs.Walk
+use Rattle.records.specs.Place
 use Rattle.reading.specs.Interval
 use Rattle.reading.proofs.Files
 use Rattle.reading.proofs.Files.{agree, range, transition, assignment, constant, variable, plain}

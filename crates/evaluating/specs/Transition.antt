@@ -7,8 +7,8 @@ use Prim.Native.Nat.{ℕ, zero, suc, _+_, _/_, _<_}
 use lib.ListN.{length, getD, set}
 use lib.IntN.{ℤ, pos}
 use Rattle.integers.specs.Interval.{between}
-use Rattle.parsing.specs.Record.{fieldA, kindIs}
-use Rattle.parsing.specs.Kind.{number as numberSort, truth as truthSort}
+use Rattle.records.specs.Record.{fieldA, kindIs}
+use Rattle.records.specs.Kind.{number as numberSort, truth as truthSort}
 use Rattle.expressions.specs.Expression.{partAt, number, truth, Fits}
 use Rattle.evaluating.specs.declared.transitions.Assignment.{Assignment}
 use Rattle.evaluating.specs.declared.transitions.Assigned.{Assigned}

@@ -3,13 +3,13 @@ use expressions::number_at;
 use expressions::truth_at;
 use integers::state::between;
 use integers::state::element;
-use parsing::records::byte_at;
-use parsing::records::kind_is;
+use records::byte_at;
+use records::kind_is;
 ghost use mathlib.Core.Path.{_≡_};
 ghost use mathlib.Core.Bool.{true};
 ghost use Prim.Native.Nat.{_+_, _/_, _<_};
 ghost use lib.ListN.{length, set};
-ghost use Rattle.parsing.specs.Kind.{number as numberSort};
+ghost use Rattle.records.specs.Kind.{number as numberSort};
 ghost use Rattle.expressions.specs.Expression.{partAt, Fits, Spans};
 ghost use Rattle.evaluating.specs.Transition.{assignmentAt, assignmentsFrom, inRangeOf, assignOf, stepOf, AssignmentsFit, TransitionFits};
 

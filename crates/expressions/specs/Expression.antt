@@ -10,12 +10,12 @@ use lib.IntN.{ℤ, pos}
 use lib.Signed.{ltZ, leZ}
 use Rattle.integers.specs.Interval.{In, bounds}
 use Rattle.integers.specs.Tests.{eqZ}
-use Rattle.parsing.specs.declared.kinds.Form.{Form}
-use Rattle.parsing.specs.declared.kinds.Form.the-variants.{Constant, Variable, Arithmetic, Indicator, Literal, Negation, Connective, Comparison, Unfit}
-use Rattle.parsing.specs.Record.{kindAt, fieldA, valueB}
-use Rattle.parsing.specs.Kind.{formAt, signatureAt}
-use Rattle.parsing.specs.Kind.{number as numberSort}
-use Rattle.parsing.specs.Walk.{span}
+use Rattle.records.specs.declared.kinds.Form.{Form}
+use Rattle.records.specs.declared.kinds.Form.the-variants.{Constant, Variable, Arithmetic, Indicator, Literal, Negation, Connective, Comparison, Unfit}
+use Rattle.records.specs.Record.{kindAt, fieldA, valueB}
+use Rattle.records.specs.Kind.{formAt, signatureAt}
+use Rattle.records.specs.Kind.{number as numberSort}
+use Rattle.records.specs.Walk.{span}
 use Rattle.reading.specs.Interval.{combine}
 
 -- ---- parts

@@ -4,8 +4,8 @@ use integers::state::widen;
 ghost use mathlib.Core.Path.{_≡_};
 ghost use Prim.Native.Nat.{_+_, _*_, _≤_};
 ghost use lib.ListN.{length, drop};
-ghost use Rattle.parsing.specs.Record.{valueB};
-ghost use Rattle.parsing.specs.Kind.{number as numberSort, truth as truthSort};
+ghost use Rattle.records.specs.Record.{valueB};
+ghost use Rattle.records.specs.Kind.{number as numberSort, truth as truthSort};
 ghost use Rattle.expressions.specs.Expression.{partAt, indicatorOf, compareOf, number, truth, holdsOf, Fits, Spans};
 
 // The part behind so many records.

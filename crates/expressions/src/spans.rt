@@ -1,5 +1,5 @@
 // How many records each expression of a file has, worked out once: so an evaluator finds a second operand without passing through the first.
-use parsing::kinds::signature_at;
+use records::kinds::signature_at;
 ghost use mathlib.Core.Path.{_≡_};
 ghost use Prim.Native.Nat.{_+_, _≤_};
 ghost use lib.ListN.{length, getD};

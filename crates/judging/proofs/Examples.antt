@@ -9,13 +9,13 @@ use Rattle.integers.specs.Bytes
 use Rattle.integers.specs.Interval as Ends
 use Rattle.integers.specs.Radix
 use Rattle.integers.specs.Tests
-use Rattle.parsing.specs.Record
-use Rattle.parsing.specs.Kind
-use Rattle.parsing.specs.Walk
+use Rattle.records.specs.Record
+use Rattle.records.specs.Kind
+use Rattle.records.specs.Walk
 use Rattle.parsing.specs.Section
-use Rattle.parsing.specs.Place
+use Rattle.records.specs.Place
 use Rattle.parsing.specs.Outline
-use Rattle.parsing.specs.Search
+use Rattle.records.specs.Search
 use Rattle.reading.specs.declared.Reading.{Reading}
 use Rattle.reading.specs.States
 use Rattle.reading.specs.Interval

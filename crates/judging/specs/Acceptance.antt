@@ -8,10 +8,10 @@ use lib.ListN.{getD}
 use lib.Dec.{eqb, ltb}
 use lib.IntN.{ℤ}
 use Rattle.parsing.specs.declared.outline.Outline.{Outline}
-use Rattle.parsing.specs.Record.{fieldC}
-use Rattle.parsing.specs.Kind.{truth as truthSort}
-use Rattle.parsing.specs.Place.{tabulate}
-use Rattle.parsing.specs.Search.{any}
+use Rattle.records.specs.Record.{fieldC}
+use Rattle.records.specs.Kind.{truth as truthSort}
+use Rattle.records.specs.Place.{tabulate}
+use Rattle.records.specs.Search.{any}
 use Rattle.reading.specs.declared.Reading.{Reading}
 use Rattle.reading.specs.Edge.{double, diagram}
 use Rattle.reading.specs.Read.{readOf}

@@ -1,6 +1,2 @@
 -- The definitions one step at a time, as the code goes.
-pub mod Record
-pub mod Walk
-pub mod Kind
 pub mod Section
-pub mod Place

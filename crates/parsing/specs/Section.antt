@@ -5,12 +5,12 @@ use mathlib.Core.List.{List}
 use lib.ListN.{getD, set, replicate}
 use lib.Dec.{ltb, leb, eqb}
 use lib.Signed.{leZ}
-use Rattle.parsing.specs.declared.walk.Walked.{Walked}
+use Rattle.records.specs.declared.walk.Walked.{Walked}
 use Rattle.parsing.specs.declared.sections.Section.{Section}
-use Rattle.parsing.specs.Record.{fieldA, fieldB, fieldC, fieldD, valueB, valueC, kindIs, zerosOf, sameBytes}
-use Rattle.parsing.specs.Search.{any}
-use Rattle.parsing.specs.Kind.{number, truth}
-use Rattle.parsing.specs.Walk.{andThen, walkOf, truthOf}
+use Rattle.records.specs.Record.{fieldA, fieldB, fieldC, fieldD, valueB, valueC, kindIs, zerosOf, sameBytes}
+use Rattle.records.specs.Search.{any}
+use Rattle.records.specs.Kind.{number, truth}
+use Rattle.records.specs.Walk.{andThen, walkOf, truthOf}
 
 -- ---- the fields of a section's records: "A field has a value not allowed, or names a variable, transition or node that the file lacks" (4)
 -- "01 variable, range b..c, b ≤ c"

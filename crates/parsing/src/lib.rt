@@ -1,6 +1,3 @@
 // Parses a file of verification diagrams: what each record may be, and where each part stands (refusals 2 to 6).
-pub mod kinds;
 pub mod outline;
-pub mod records;
 pub mod sections;
-pub mod walk;

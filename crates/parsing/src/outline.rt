@@ -1,7 +1,4 @@
 // Parses a whole file, section by section: refusals 2 to 6, or its outline.
-use crate::kinds::TRUTH;
-use crate::records::kind_is;
-use crate::records::zeros;
 use crate::sections::Section;
 use crate::sections::edges;
 use crate::sections::expressions;
@@ -10,9 +7,12 @@ use crate::sections::phases_or;
 use crate::sections::property_fields;
 use crate::sections::transitions;
 use crate::sections::variables;
-use crate::walk::Walked;
-use crate::walk::truths;
-use crate::walk::walk;
+use records::kind_is;
+use records::kinds::TRUTH;
+use records::walk::Walked;
+use records::walk::truths;
+use records::walk::walk;
+use records::zeros;
 ghost use mathlib.Core.Path.{_≡_};
 ghost use Prim.Native.Nat.{_+_, _*_, _≤_};
 ghost use lib.ListN.{length};

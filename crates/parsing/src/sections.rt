@@ -1,17 +1,17 @@
 // The sections of a file: variables, transitions, property, nodes and edges, with the refusals 3 to 6 of their records.
-use crate::kinds::NUMBER;
-use crate::kinds::TRUTH;
-use crate::records::kind_is;
-use crate::records::same_bytes;
-use crate::records::value_at;
-use crate::records::word_at;
-use crate::records::zeros;
-use crate::walk::Walked;
-use crate::walk::walk;
+use records::kind_is;
+use records::kinds::NUMBER;
+use records::kinds::TRUTH;
+use records::same_bytes;
+use records::value_at;
+use records::walk::Walked;
+use records::walk::walk;
+use records::word_at;
+use records::zeros;
 ghost use mathlib.Core.Path.{_≡_};
 ghost use Prim.Native.Nat.{_+_, _*_, _/_, _≤_, _<_};
 ghost use lib.ListN.{length, replicate};
-ghost use Rattle.parsing.specs.Place.{placesOf};
+ghost use Rattle.records.specs.Place.{placesOf};
 ghost use Rattle.parsing.specs.Section.{variableFields, transitionFields, assignmentFields, propertyFields, edgeFields, variablesOf, assignmentsOf, transitionOf, transitionsOf, expressionsOf, phasesOr, nodeOf, nodesOf, repeatedOf, edgesOf};
 
 // Where a section ends: how many items it has and the record behind it, or refused, with the number and the record.

@@ -8,13 +8,13 @@ use lib.ListN.{take, drop, set, replicate}
 use Rattle.integers.specs.Bytes
 use Rattle.integers.specs.Interval as Ends
 use Rattle.integers.specs.Radix
-use Rattle.parsing.specs.Record
-use Rattle.parsing.specs.Kind
-use Rattle.parsing.specs.Walk
+use Rattle.records.specs.Record
+use Rattle.records.specs.Kind
+use Rattle.records.specs.Walk
 use Rattle.parsing.specs.Section
 use Rattle.parsing.specs.Outline
 use Rattle.reading.specs.declared.Reading.{Reading}
-use Rattle.parsing.specs.Search
+use Rattle.records.specs.Search
 use Rattle.reading.specs.States
 use Rattle.reading.specs.Interval
 use Rattle.reading.specs.Edge

@@ -5,14 +5,14 @@ use mathlib.Core.Bool.{Bool, cond, not, _&&_, _||_}
 use mathlib.Core.List.{List}
 use lib.ListN.{length}
 use lib.Dec.{ltb, leb, eqb}
-use Rattle.parsing.specs.declared.walk.Walked.{Walked}
+use Rattle.records.specs.declared.walk.Walked.{Walked}
 use Rattle.parsing.specs.declared.outline.Outline.{Outline}
-use Rattle.parsing.specs.Walk.{inSequence}
-use Rattle.parsing.specs.Record.{fieldA, fieldB, fieldC, fieldD}
+use Rattle.records.specs.Walk.{inSequence}
+use Rattle.records.specs.Record.{fieldA, fieldB, fieldC, fieldD}
 use Rattle.parsing.specs.Section.{transitionOf}
-use Rattle.parsing.specs.Place.{placeOf, placesOf}
+use Rattle.records.specs.Place.{placeOf, placesOf}
 use Rattle.reading.specs.States.{Ranges}
-use Rattle.parsing.specs.Search.{any, refuseFirst}
+use Rattle.records.specs.Search.{any, refuseFirst}
 
 -- an edge: a transition, b from, c to, d = 0 single, 1 double
 abbrev pub single : List ℕ → ℕ → Bool

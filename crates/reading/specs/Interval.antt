@@ -8,11 +8,11 @@ use lib.Dec.{ltb, eqb}
 use lib.IntN.{ℤ, pos, _+ℤ_, _-ℤ_, _*ℤ_}
 use Rattle.integers.specs.declared.Interval.{Interval}
 use Rattle.integers.specs.Interval.{overEnds, inBounds}
-use Rattle.parsing.specs.declared.kinds.Form.{Form}
-use Rattle.parsing.specs.declared.kinds.Form.the-variants.{Constant, Variable, Arithmetic, Indicator, Literal, Negation, Connective, Comparison, Unfit}
-use Rattle.parsing.specs.declared.walk.Walked.{Walked}
-use Rattle.parsing.specs.Record.{kindAt, fieldA, valueB, valueC}
-use Rattle.parsing.specs.Kind.{none, formAt, signatureAt}
+use Rattle.records.specs.declared.kinds.Form.{Form}
+use Rattle.records.specs.declared.kinds.Form.the-variants.{Constant, Variable, Arithmetic, Indicator, Literal, Negation, Connective, Comparison, Unfit}
+use Rattle.records.specs.declared.walk.Walked.{Walked}
+use Rattle.records.specs.Record.{kindAt, fieldA, valueB, valueC}
+use Rattle.records.specs.Kind.{none, formAt, signatureAt}
 use Rattle.reading.specs.declared.intervals.Analysis.{Analysis}
 
 abbrev pub interval : ℤ → ℤ → Interval

@@ -2,7 +2,7 @@
 -- the check itself tries after 1 and before 11 meets it." Refusals 2 to 6 are parsing's.
 use mathlib.Core.List.{List}
 use Prim.Native.Nat.{ℕ}
-use Rattle.parsing.specs.declared.walk.Walked.{Walked}
+use Rattle.records.specs.declared.walk.Walked.{Walked}
 use Rattle.parsing.specs.declared.outline.Outline.{Outline}
 use Rattle.parsing.specs.declared.outline.Parsed.{Parsed}
 use Rattle.parsing.specs.Outline.{parsedOf}

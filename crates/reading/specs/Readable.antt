@@ -6,12 +6,12 @@ use Prim.Native.Nat.{ℕ, _+_, _/_, _<_, _≤_}
 use lib.ListN.{length}
 use Rattle.integers.specs.declared.Interval.{Interval}
 use Rattle.integers.specs.Interval.{inBounds}
-use Rattle.parsing.specs.declared.kinds.Form.the-variants.{Variable}
-use Rattle.parsing.specs.declared.walk.Walked.{Walked}
+use Rattle.records.specs.declared.kinds.Form.the-variants.{Variable}
+use Rattle.records.specs.declared.walk.Walked.{Walked}
 use Rattle.parsing.specs.declared.outline.Outline.{Outline}
-use Rattle.parsing.specs.Record.{kindAt, fieldA, fieldB, fieldC, fieldD, kindIs}
-use Rattle.parsing.specs.Kind.{number, truth, formAt, signatureAt}
-use Rattle.parsing.specs.Walk.{inSequence, walkOf, truthOf}
+use Rattle.records.specs.Record.{kindAt, fieldA, fieldB, fieldC, fieldD, kindIs}
+use Rattle.records.specs.Kind.{number, truth, formAt, signatureAt}
+use Rattle.records.specs.Walk.{inSequence, walkOf, truthOf}
 use Rattle.parsing.specs.Section.{transitionOf, nodeOf}
 use Rattle.reading.specs.declared.intervals.Analysis.{Analysis}
 use Rattle.reading.specs.Interval.{unit, leafOf, joinOf, analysisOf}

@@ -6,8 +6,8 @@ use lib.ListN.{length}
 use lib.Dec.{leb}
 use lib.Signed.{_≤ℤ_}
 use Rattle.integers.specs.Radix.{offsetOf}
-use Rattle.parsing.specs.declared.walk.Walked.{Walked}
-use Rattle.parsing.specs.Record.{valueB, valueC}
+use Rattle.records.specs.declared.walk.Walked.{Walked}
+use Rattle.records.specs.Record.{valueB, valueC}
 
 -- how many values the variable at record `at` has: those of its range b..c
 unfoldable pub sizeOf : List ℕ → ℕ → ℕ

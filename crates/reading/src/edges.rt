@@ -1,15 +1,15 @@
 // The edge rules: refusals 9 and 10.
 use parsing::outline::Outline;
-use parsing::records::byte_at;
-use parsing::records::word_at;
 use parsing::sections::transition_places;
-use parsing::walk::Walked;
+use records::byte_at;
+use records::walk::Walked;
+use records::word_at;
 ghost use mathlib.Core.Path.{_≡_};
 ghost use Prim.Native.Nat.{_+_, _*_, _≤_, _<_};
 ghost use lib.ListN.{length};
 ghost use Rattle.parsing.specs.Section.{transitionOf};
-ghost use Rattle.parsing.specs.Place.{placesOf};
-ghost use Rattle.parsing.specs.Search.{any};
+ghost use Rattle.records.specs.Place.{placesOf};
+ghost use Rattle.records.specs.Search.{any};
 ghost use Rattle.reading.specs.Edge.{descending, conflictOf, justOf, chainRuleOf, ruleOf, rulesOf, doubleFrom, doubledOf, doublesOf, Fits, EdgeFits};
 
 // Whether two edges conflict: from one node, either of one transition, single and double, or both double.

@@ -1,12 +1,12 @@
 // The interval of every number expression, from the variables' ranges: refusal 8.
 use integers::Interval;
-use parsing::kinds::Form;
-use parsing::kinds::NONE;
-use parsing::kinds::form_of;
-use parsing::kinds::signature_at;
-use parsing::kinds::signature_of;
-use parsing::records::wide_value_at;
-use parsing::walk::Walked;
+use records::kinds::Form;
+use records::kinds::NONE;
+use records::kinds::form_of;
+use records::kinds::signature_at;
+use records::kinds::signature_of;
+use records::walk::Walked;
+use records::wide_value_at;
 ghost use mathlib.Core.Path.{_≡_};
 ghost use Prim.Native.Nat.{_+_, _*_, _≤_};
 ghost use lib.ListN.{length};

@@ -2,7 +2,7 @@
 use parsing::outline::Outline;
 use parsing::outline::Parsed;
 use parsing::outline::parse;
-use parsing::walk::Walked;
+use records::walk::Walked;
 ghost use mathlib.Core.Path.{_≡_};
 ghost use Rattle.reading.specs.Edge.{Fits};
 ghost use Rattle.reading.specs.Read.{stagesRead, readOf};

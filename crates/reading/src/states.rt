@@ -1,11 +1,11 @@
 // The number of states, the product of the variables' ranges: refusal 7.
-use parsing::records::value_at;
-use parsing::walk::Walked;
+use records::value_at;
+use records::walk::Walked;
 ghost use mathlib.Core.Path.{_≡_};
 ghost use Prim.Native.Nat.{_+_, _*_, _≤_};
 ghost use lib.ListN.{length};
 ghost use lib.Signed.{_≤ℤ_};
-ghost use Rattle.parsing.specs.Record.{valueB, valueC};
+ghost use Rattle.records.specs.Record.{valueB, valueC};
 ghost use Rattle.reading.specs.States.{sizeOf, statesOf, Ranges};
 
 // How many values the variable at record `at` has.

@@ -8,8 +8,8 @@ use lib.Dec.{ltb}
 use lib.IntN.{ℤ, pos}
 use lib.ListN.{getD}
 use lib.Signed.{_≤ℤ_}
-use Rattle.parsing.specs.Record.{value}
-use Rattle.parsing.specs.Place.{tabulate}
+use Rattle.records.specs.Record.{value}
+use Rattle.records.specs.Place.{tabulate}
 
 -- the low or the high ends of the twelve ranges: of a variable's record the bytes from `field` on, 2 for b and 4 for c ("range b..c")
 unfoldable pub endsOf : List ℕ → ℕ → ℕ → List ℤ

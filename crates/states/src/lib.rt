@@ -16,7 +16,7 @@ fn ends(file: &[u8], vars: usize, field: usize) -> [i16; 12]
     let mut ends = [0i16; 12];
     let mut v: usize = 0;
     while v < vars {
-        ends[v] = parsing::records::value_at(file, 8 * v + field);
+        ends[v] = records::value_at(file, 8 * v + field);
         v += 1;
     }
     ends

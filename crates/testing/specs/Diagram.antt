@@ -5,9 +5,9 @@ use Prim.Native.Nat.{ℕ, _+_}
 use lib.Dec.{eqb}
 use lib.IntN.{ℤ}
 use Rattle.parsing.specs.declared.outline.Outline.{Outline}
-use Rattle.parsing.specs.Walk.{inSequence, truthOf}
+use Rattle.records.specs.Walk.{inSequence, truthOf}
 use Rattle.parsing.specs.Section.{nodeOf}
-use Rattle.parsing.specs.Place.{placeOf}
+use Rattle.records.specs.Place.{placeOf}
 use Rattle.reading.specs.Edge.{diagram}
 use Rattle.expressions.specs.Expression.{holdsOf}
 

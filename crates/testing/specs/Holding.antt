@@ -4,8 +4,8 @@ use mathlib.Core.List.{List}
 use Prim.Native.Nat.{ℕ}
 use lib.IntN.{ℤ}
 use Rattle.parsing.specs.declared.outline.Outline.{Outline}
-use Rattle.parsing.specs.Record.{fieldC}
-use Rattle.parsing.specs.Search.{any}
+use Rattle.records.specs.Record.{fieldC}
+use Rattle.records.specs.Search.{any}
 use Rattle.reading.specs.Edge.{transitionAt}
 use Rattle.states.specs.State.{lowsOf, highsOf}
 use Rattle.evaluating.specs.Transition.{guardOf, assignmentsOf, allInRange, enabledOf, successorOf}

@@ -8,11 +8,11 @@ use lib.ListN.{length, getD, take, replicate}
 use lib.Dec.{eqb}
 use lib.IntN.{ℤ}
 use Rattle.parsing.specs.declared.outline.Outline.{Outline}
-use Rattle.parsing.specs.Record.{fieldC}
-use Rattle.parsing.specs.Kind.{truth as truthSort}
-use Rattle.parsing.specs.Search.{any}
+use Rattle.records.specs.Record.{fieldC}
+use Rattle.records.specs.Kind.{truth as truthSort}
+use Rattle.records.specs.Search.{any}
 use Rattle.parsing.specs.Section.{nodeOf, transitionOf}
-use Rattle.parsing.specs.Place.{tabulate, placesOf}
+use Rattle.records.specs.Place.{tabulate, placesOf}
 use Rattle.reading.specs.Edge.{transitionAt}
 use Rattle.expressions.specs.Expression.{partAt, holdsOf, Fits}
 use Rattle.states.specs.State.{Within}

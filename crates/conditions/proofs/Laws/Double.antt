@@ -13,8 +13,8 @@ use native.Mathlib.Omega.{arith}
 use borrow.Author.Tests.{eq-eqb, ne-eqb, eqb-true, eqb-false, ltb-true, ltb-false, lt-ltb, le-ltb, not-true, not-false}
 use lib.Dec.{eqb, ltb}
 use Rattle.parsing.specs.declared.outline.Outline.{Outline}
-use Rattle.parsing.specs.Record.{fieldA, fieldB, fieldD}
-use Rattle.parsing.proofs.Laws.Search.{any-some}
+use Rattle.records.specs.Record.{fieldA, fieldB, fieldD}
+use Rattle.records.proofs.Laws.Search.{any-some}
 use Rattle.reading.specs.declared.Reading.{Reading}
 use Rattle.reading.specs.Edge.{diagram, double, doubleFrom}
 use Rattle.reading.specs.Read.{readOf}

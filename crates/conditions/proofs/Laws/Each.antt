@@ -15,8 +15,8 @@ use native.Mathlib.Decide.{decLt}
 use native.Mathlib.Omega.{arith}
 use lib.ListN.{length, getD, length-append, List·getD-append}
 use lib.Seq.{getD-append-add}
-use Rattle.parsing.specs.Place.{tabulate}
-use Rattle.parsing.proofs.Laws.Place.{getD-tabulate}
+use Rattle.records.specs.Place.{tabulate}
+use Rattle.records.proofs.Laws.Place.{getD-tabulate}
 use Rattle.conditions.specs.Condition.{each}
 
 pub tabulate-at : {A : Type 0} (f : ℕ → A) (d : A) (n i : ℕ) → i < n → getD (tabulate f n 0) i d ≡ f i

@@ -10,7 +10,7 @@ use mathlib.Core.Bool.{Bool, true, false, cond, _&&_, _||_, false≢true, and-eq
 use Prim.Native.Nat.{ℕ, zero, suc, _+_, _≤_, _<_}
 use native.Mathlib.Decide.{decLt}
 use native.Mathlib.Omega.{arith}
-use Rattle.parsing.specs.Search.{any}
+use Rattle.records.specs.Search.{any}
 use Rattle.conditions.specs.Search.{firstFrom, first}
 
 pub or-second : (a b : Bool) → b ≡ true → (a || b) ≡ true

@@ -7,7 +7,7 @@ use native.Mathlib.Decide.{decLt}
 use native.Mathlib.Omega.{arith}
 use borrow.Author.Tests.{lt-ltb, le-ltb}
 use Rattle.parsing.specs.declared.outline.Outline.{Outline}
-use Rattle.parsing.specs.Record.{fieldA}
+use Rattle.records.specs.Record.{fieldA}
 use Rattle.reading.specs.declared.Reading.{Reading}
 use Rattle.reading.specs.Read.{readOf}
 use Rattle.reading.specs.Edge.{doubleFrom}

@@ -7,7 +7,7 @@ use Prim.Native.Nat.{ℕ, zero, suc, _+_, _-_, _≤_}
 use native.Mathlib.Omega.{arith}
 use borrow.Author.Tests.{lt-ltb, le-ltb}
 use Rattle.integers.specs.Radix.{offsetOf}
-use Rattle.parsing.specs.Place.{tabulate}
+use Rattle.records.specs.Place.{tabulate}
 use Rattle.reading.specs.States.{productOf, sizeOf as recordSize}
 use Rattle.states.specs.State.{endsOf, lowsOf, highsOf}
 use Rattle.states.specs.Number.{sizeOf, countOf}

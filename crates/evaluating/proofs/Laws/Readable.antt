@@ -18,8 +18,8 @@ use lib.ListN.{length, getD}
 use Rattle.integers.specs.declared.Interval.{Interval}
 use Rattle.integers.specs.Interval.{In}
 use Rattle.parsing.specs.declared.outline.Outline.{Outline}
-use Rattle.parsing.specs.Record.{fieldA, valueB, valueC}
-use Rattle.parsing.specs.Kind.{number as numberSort, truth as truthSort}
+use Rattle.records.specs.Record.{fieldA, valueB, valueC}
+use Rattle.records.specs.Kind.{number as numberSort, truth as truthSort}
 use Rattle.parsing.specs.Section.{expressionsOf}
 use Rattle.parsing.proofs.Laws.Section.{kind-here}
 use Rattle.reading.specs.declared.Reading.{Reading}

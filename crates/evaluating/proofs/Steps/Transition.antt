@@ -6,8 +6,8 @@ use Prim.Native.Nat.{ℕ, zero, suc, _+_, _/_, _<_}
 use lib.IntN.{ℤ}
 use lib.ListN.{length, set}
 use Rattle.expressions.specs.Expression.{partAt, Fits}
-use Rattle.parsing.specs.Record.{fieldA, kindIs}
-use Rattle.parsing.specs.Kind.{number as numberSort}
+use Rattle.records.specs.Record.{fieldA, kindIs}
+use Rattle.records.specs.Kind.{number as numberSort}
 use Rattle.evaluating.specs.declared.transitions.Assignment.{Assignment}
 use Rattle.evaluating.specs.declared.transitions.Assigned.{Assigned}
 use Rattle.evaluating.specs.declared.transitions.Stepped.{Stepped}

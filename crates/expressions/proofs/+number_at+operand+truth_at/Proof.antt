@@ -8,11 +8,11 @@ use lib.IntN.{_+ℤ_, _-ℤ_, _*ℤ_}
 use mir.Syntax.{w16, w64}
 use Rattle.integers.proofs.Laws.Parts.{back}
 use Rattle.integers.proofs.Laws.Bounds.{sum-fits, difference-fits, product-fits, op-fits, op-back}
-use Rattle.parsing.specs.declared.kinds.Form.{Form}
-use Rattle.parsing.specs.declared.kinds.Form.the-variants.{Arithmetic, Connective, Comparison}
-use Rattle.parsing.specs.Record.{kindAt, fieldA}
-use Rattle.parsing.specs.Kind.{within, formOf, signatureOf}
-use Rattle.parsing.specs.Kind.{number as numberSort, truth as truthSort}
+use Rattle.records.specs.declared.kinds.Form.{Form}
+use Rattle.records.specs.declared.kinds.Form.the-variants.{Arithmetic, Connective, Comparison}
+use Rattle.records.specs.Record.{kindAt, fieldA}
+use Rattle.records.specs.Kind.{within, formOf, signatureOf}
+use Rattle.records.specs.Kind.{number as numberSort, truth as truthSort}
 use Rattle.reading.specs.Interval.{combine}
 use Rattle.expressions.specs.Expression.{connectOf}
 use Rattle.expressions.proofs.Laws.Expression.{fits-record}

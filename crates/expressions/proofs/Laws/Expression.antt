@@ -11,11 +11,11 @@ use native.Mathlib.Omega.{arith}
 use lib.ListN.{length, length-drop}
 use lib.IntN.{ℤ}
 use Rattle.integers.specs.Interval.{In, bounds}
-use Rattle.parsing.specs.declared.kinds.Form.{Form}
-use Rattle.parsing.specs.declared.kinds.Form.the-variants.{Constant, Variable, Arithmetic, Indicator, Literal, Negation, Connective, Comparison, Unfit}
-use Rattle.parsing.specs.Kind.{formAt, signatureOf, signatureAt}
-use Rattle.parsing.specs.Kind.{number as numberSort}
-use Rattle.parsing.specs.Walk.{spans, span}
+use Rattle.records.specs.declared.kinds.Form.{Form}
+use Rattle.records.specs.declared.kinds.Form.the-variants.{Constant, Variable, Arithmetic, Indicator, Literal, Negation, Connective, Comparison, Unfit}
+use Rattle.records.specs.Kind.{formAt, signatureOf, signatureAt}
+use Rattle.records.specs.Kind.{number as numberSort}
+use Rattle.records.specs.Walk.{spans, span}
 use Rattle.expressions.specs.Expression.{partAt, first, second, numberBy, truthBy, number, truth, RecordFits, OperandsFit, Fits}
 
 -- ---- opened

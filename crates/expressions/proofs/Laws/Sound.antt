@@ -17,12 +17,12 @@ use Rattle.integers.specs.declared.Interval.{Interval}
 use Rattle.integers.specs.Interval.{In, overEnds}
 use Rattle.integers.proofs.Laws.Parts.{by-test, ints}
 use Rattle.integers.proofs.Laws.Interval.{in-bounds, sum-in, difference-in, product-in}
-use Rattle.parsing.specs.declared.kinds.Form.{Form}
-use Rattle.parsing.specs.declared.kinds.Form.the-variants.{Constant, Variable, Arithmetic, Indicator, Literal, Negation, Connective, Comparison, Unfit}
-use Rattle.parsing.specs.Record.{kindAt, fieldA, valueB, valueC}
-use Rattle.parsing.specs.Kind.{formOf, formAt, signatureOf, signatureAt}
-use Rattle.parsing.specs.Kind.{number as numberSort}
-use Rattle.parsing.specs.Walk.{span}
+use Rattle.records.specs.declared.kinds.Form.{Form}
+use Rattle.records.specs.declared.kinds.Form.the-variants.{Constant, Variable, Arithmetic, Indicator, Literal, Negation, Connective, Comparison, Unfit}
+use Rattle.records.specs.Record.{kindAt, fieldA, valueB, valueC}
+use Rattle.records.specs.Kind.{formOf, formAt, signatureOf, signatureAt}
+use Rattle.records.specs.Kind.{number as numberSort}
+use Rattle.records.specs.Walk.{span}
 use Rattle.reading.specs.Interval.{interval, unit, leafOf, combine, joinOf}
 use Rattle.reading.specs.Readable.{Expression, Operands}
 use Rattle.reading.proofs.Laws.Expression.{expression-opens, expression-deepest, expression-bounded, expression-span}

@@ -13,8 +13,8 @@ use native.Mathlib.Omega.{arith}
 use lib.IntN.{ℤ}
 use lib.ListN.{length, getD, drop, replicate, length-drop}
 use lib.Seq.{getD-drop, drop-drop}
-use Rattle.parsing.specs.Kind.{formAt, signatureOf, signatureAt}
-use Rattle.parsing.specs.Walk.{spans, span}
+use Rattle.records.specs.Kind.{formAt, signatureOf, signatureAt}
+use Rattle.records.specs.Walk.{spans, span}
 use Rattle.expressions.specs.Expression.{partAt, first, second, OperandsFit, Fits, spanBy, withSpan, spansFrom, spansOf, Spans}
 use Rattle.expressions.proofs.Laws.Expression.{span-opens, fits-opens, fits-level, fits-here, operands-most}
 use Rattle.expressions.proofs.Laws.Sound.{form-part, part-part, first-part, second-part}

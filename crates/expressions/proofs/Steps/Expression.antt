@@ -11,12 +11,12 @@ use lib.Seq.{getD-drop}
 use lib.Dec.{leb, eqb}
 use lib.IntN.{ℤ, pos}
 use Rattle.integers.specs.Interval.{In, bounds}
-use Rattle.parsing.specs.declared.kinds.Form.{Form}
-use Rattle.parsing.specs.declared.kinds.Form.the-variants.{Constant, Variable, Arithmetic, Indicator, Literal, Negation, Connective, Comparison}
-use Rattle.parsing.specs.Record.{kindAt, fieldA, valueB}
-use Rattle.parsing.specs.Kind.{within, formOf, formAt, signatureOf}
-use Rattle.parsing.specs.Kind.{number as numberSort, truth as truthSort}
-use Rattle.parsing.specs.Walk.{span}
+use Rattle.records.specs.declared.kinds.Form.{Form}
+use Rattle.records.specs.declared.kinds.Form.the-variants.{Constant, Variable, Arithmetic, Indicator, Literal, Negation, Connective, Comparison}
+use Rattle.records.specs.Record.{kindAt, fieldA, valueB}
+use Rattle.records.specs.Kind.{within, formOf, formAt, signatureOf}
+use Rattle.records.specs.Kind.{number as numberSort, truth as truthSort}
+use Rattle.records.specs.Walk.{span}
 use Rattle.reading.specs.Interval.{combine}
 use Rattle.expressions.specs.Expression.{partAt, first, second, indicatorOf, connectOf, compareOf, numberBy, truthBy, number, truth, OperandsFit, Fits, Spans}
 use Rattle.expressions.proofs.Laws.Expression.{number-opens, truth-opens, fits-opens, fits-level, fits-record, fits-small, fits-within}

@@ -8,8 +8,8 @@ use native.Mathlib.Numerals.{add-one}
 use native.Mathlib.Omega.{arith}
 use lib.ListN.{length, getD, drop, set, replicate, length-set, length-replicate}
 use lib.Seq.{drop-cons, getD-drop, getD-set-same, drop-set-lt}
-use Rattle.parsing.specs.declared.kinds.Signature.{Signature}
-use Rattle.parsing.specs.Kind.{signatureAt}
+use Rattle.records.specs.declared.kinds.Signature.{Signature}
+use Rattle.records.specs.Kind.{signatureAt}
 use Rattle.expressions.specs.Expression.{spanBy, withSpan, spansFrom, spansOf}
 use Rattle.expressions.proofs.Laws.Span.{zeros-behind, spans-entry}
 

@@ -2,7 +2,7 @@
 use Prim.Native.Nat.{_+_, _*_, _≤_}
 use native.Mathlib.Omega.{arith}
 use lib.ListN.{length}
-use Rattle.parsing.specs.Kind.{truth as truthSort}
+use Rattle.records.specs.Kind.{truth as truthSort}
 use Rattle.expressions.specs.Expression.{holdsOf}
 use Rattle.expressions.proofs.Laws.Expression.{fits-here}
 use Rattle.expressions.proofs.Steps.Part.{take-rest, lent}

@@ -18,9 +18,9 @@ use lib.ListN.{getD}
 use lib.Dec.{eqb, ltb}
 use lib.IntN.{ℤ}
 use Rattle.parsing.specs.declared.outline.Outline.{Outline}
-use Rattle.parsing.specs.Record.{fieldA, fieldB, fieldC}
-use Rattle.parsing.specs.Kind.{truth as truthSort}
-use Rattle.parsing.specs.Search.{any}
+use Rattle.records.specs.Record.{fieldA, fieldB, fieldC}
+use Rattle.records.specs.Kind.{truth as truthSort}
+use Rattle.records.specs.Search.{any}
 use Rattle.reading.specs.declared.Reading.{Reading}
 use Rattle.reading.specs.Edge.{double, diagram, transitionAt}
 use Rattle.reading.specs.Read.{readOf}

@@ -12,7 +12,7 @@ use mathlib.Core.Bool.{Bool, true, false, _&&_, false≢true, and-eq-true-iff}
 use Prim.Native.Nat.{ℕ, zero, suc, _+_, _≤_, _<_}
 use native.Mathlib.Decide.{decLt}
 use native.Mathlib.Omega.{arith}
-use Rattle.parsing.specs.Search.{any}
+use Rattle.records.specs.Search.{any}
 use Rattle.conditions.specs.Search.{first}
 use Rattle.judging.specs.Acceptance.{every}
 use Rattle.conditions.proofs.Laws.Search.{first-passes}

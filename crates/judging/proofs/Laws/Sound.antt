@@ -12,8 +12,8 @@ use borrow.Author.Tests.{eq-eqb, eqb-true}
 use lib.Dec.{T, T-not, eqb}
 use lib.IntN.{ℤ}
 use Rattle.parsing.specs.declared.outline.Outline.{Outline}
-use Rattle.parsing.specs.Record.{fieldA, fieldB, fieldC}
-use Rattle.parsing.proofs.Laws.Search.{Some, any-some}
+use Rattle.records.specs.Record.{fieldA, fieldB, fieldC}
+use Rattle.records.proofs.Laws.Search.{Some, any-some}
 use Rattle.reading.specs.declared.Reading.{Reading}
 use Rattle.reading.specs.Edge.{diagram, double, justOf}
 use Rattle.reading.specs.Read.{readOf}

@@ -9,8 +9,8 @@ use borrow.Author.Tests.{eqb-true, eqb-false, ltb-true, ltb-false, lt-ltb, le-lt
 use lib.Dec.{eqb, ltb}
 use lib.ListN.{getD, set, length, replicate, length-set}
 use lib.Seq.{getD-set-same, getD-set-other, ext-getD}
-use Rattle.parsing.specs.Place.{tabulate}
-use Rattle.parsing.proofs.Laws.Place.{length-tabulate}
+use Rattle.records.specs.Place.{tabulate}
+use Rattle.records.proofs.Laws.Place.{length-tabulate}
 use Rattle.conditions.proofs.Laws.Each.{tabulate-at}
 
 module _ {A : Type 0} (f : ℕ → A) (z : A) where

@@ -10,8 +10,8 @@ use borrow.Author.Tests.{le-leb, lt-leb}
 use lib.IntN.{ℤ}
 use lib.ListN.{length}
 use Rattle.parsing.specs.declared.outline.Outline.{Outline}
-use Rattle.parsing.specs.declared.walk.Walked.{Walked}
-use Rattle.parsing.specs.Walk.{inSequence}
+use Rattle.records.specs.declared.walk.Walked.{Walked}
+use Rattle.records.specs.Walk.{inSequence}
 use Rattle.parsing.proofs.Laws.Section.{kind-here}
 use Rattle.reading.specs.declared.Reading.{Reading}
 use Rattle.reading.specs.Read.{readOf}

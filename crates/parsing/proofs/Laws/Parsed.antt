@@ -15,12 +15,12 @@ use lib.ListN.{length}
 use lib.Dec.{ltb, leb, eqb}
 use lib.Signed.{leZ, _≤ℤ_}
 use Rattle.integers.proofs.Laws.Parts.{parts-≤, leZ-true}
-use Rattle.parsing.specs.declared.walk.Walked.{Walked}
+use Rattle.records.specs.declared.walk.Walked.{Walked}
 use Rattle.parsing.specs.declared.outline.Outline.{Outline}
-use Rattle.parsing.specs.Record.{fieldA, fieldB, fieldC, fieldD, valueB, valueC, zerosOf, sameBytes}
-use Rattle.parsing.specs.Walk.{truthOf}
+use Rattle.records.specs.Record.{fieldA, fieldB, fieldC, fieldD, valueB, valueC, zerosOf, sameBytes}
+use Rattle.records.specs.Walk.{truthOf}
 use Rattle.parsing.specs.Section.{noFields, variableFields, transitionFields, propertyFields, edgeFields, variablesOf, transitionOf, transitionsOf, phasesOr, nodesOf, repeatedOf, edgesOf}
-use Rattle.parsing.proofs.Laws.Search.{any-false}
+use Rattle.records.proofs.Laws.Search.{any-false}
 use Rattle.parsing.proofs.Laws.Section.{items-most, items-single, single-nth}
 use Rattle.parsing.proofs.Laws.Outline.{Parses}
 

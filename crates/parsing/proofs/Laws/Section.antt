@@ -15,14 +15,14 @@ use native.Mathlib.Omega.{arith}
 use borrow.Author.Tests.{ltb-true}
 use lib.ListN.{length, getD, set, replicate}
 use lib.Dec.{ltb, eqb}
-use Rattle.parsing.specs.declared.walk.Walked.{Walked}
-use Rattle.parsing.specs.declared.walk.Walked.the-variants.{End, Refused}
+use Rattle.records.specs.declared.walk.Walked.{Walked}
+use Rattle.records.specs.declared.walk.Walked.the-variants.{End, Refused}
 use Rattle.parsing.specs.declared.sections.Section.{Section}
-use Rattle.parsing.specs.Record.{kindAt, fieldA, kindIs}
-use Rattle.parsing.specs.Kind.{number, truth}
-use Rattle.parsing.specs.Walk.{andThen, inSequence, walkOf}
+use Rattle.records.specs.Record.{kindAt, fieldA, kindIs}
+use Rattle.records.specs.Kind.{number, truth}
+use Rattle.records.specs.Walk.{andThen, inSequence, walkOf}
 use Rattle.parsing.specs.Section.{assignmentFields, andItems, itemsOf, assignmentsOf, transitionOf}
-use Rattle.parsing.proofs.Laws.Walk.{walk-bound, sequence-bound}
+use Rattle.records.proofs.Laws.Walk.{walk-bound, sequence-bound}
 
 -- a record of a kind is in the file
 pub kind-here : (file : List ℕ) (kind at : ℕ) → kindIs file kind at ≡ true → at < length file / 8

@@ -10,12 +10,12 @@ use Prim.Native.Nat.{ℕ, zero, suc, _+_, _-_, _/_}
 use native.Mathlib.Omega.{arith}
 use lib.ListN.{length, getD, set, replicate}
 use lib.Dec.{eqb}
-use Rattle.parsing.specs.declared.walk.Walked.{Walked}
-use Rattle.parsing.specs.declared.walk.Walked.the-variants.{End, Refused}
+use Rattle.records.specs.declared.walk.Walked.{Walked}
+use Rattle.records.specs.declared.walk.Walked.the-variants.{End, Refused}
 use Rattle.parsing.specs.declared.outline.Outline.{Outline}
-use Rattle.parsing.specs.Record.{fieldA, kindIs}
-use Rattle.parsing.specs.Kind.{none, number, truth, within, formOf, signatureOf}
-use Rattle.parsing.specs.Walk.{andThen, walkOf, truthOf}
+use Rattle.records.specs.Record.{fieldA, kindIs}
+use Rattle.records.specs.Kind.{none, number, truth, within, formOf, signatureOf}
+use Rattle.records.specs.Walk.{andThen, walkOf, truthOf}
 use Rattle.parsing.specs.Section.{noFields, variableFields, transitionFields, assignmentFields, edgeFields, variablesOf, assignmentsOf, transitionOf, transitionsOf, expressionsOf, phasesOr, nodeOf, nodesOf, repeatedOf, edgesOf}
 use Rattle.parsing.proofs.Laws.Section.{items-through, sequence-through}
 use Rattle.parsing.proofs.Laws.Outline.{Parses}

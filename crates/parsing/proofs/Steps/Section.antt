@@ -9,11 +9,11 @@ use native.Mathlib.Omega.{arith}
 use borrow.Author.Tests.{ltb-true, eq-eqb, ne-eqb}
 use lib.ListN.{getD, set}
 use lib.Dec.{ltb}
-use Rattle.parsing.specs.declared.walk.Walked.{Walked}
+use Rattle.records.specs.declared.walk.Walked.{Walked}
 use Rattle.parsing.specs.declared.sections.Section.{Section}
-use Rattle.parsing.specs.Record.{fieldA, kindIs, zerosOf}
-use Rattle.parsing.specs.Kind.{number}
-use Rattle.parsing.specs.Walk.{walkOf}
+use Rattle.records.specs.Record.{fieldA, kindIs, zerosOf}
+use Rattle.records.specs.Kind.{number}
+use Rattle.records.specs.Walk.{walkOf}
 use Rattle.parsing.specs.Section.{assignmentFields, itemsOf, assignmentsOf}
 
 -- ---- items

@@ -11,10 +11,10 @@ use native.Mathlib.Omega.{arith}
 use borrow.Author.Tests.{eq-eqb, ne-eqb, eqb-true, eqb-false, ltb-true, ltb-false, leb-true, not-true, not-false}
 use lib.Dec.{ltb, leb, eqb}
 use Rattle.parsing.specs.declared.outline.Outline.{Outline}
-use Rattle.parsing.specs.Record.{fieldA, fieldB, fieldC, fieldD}
+use Rattle.records.specs.Record.{fieldA, fieldB, fieldC, fieldD}
 use Rattle.parsing.proofs.Laws.Parsed as parsed
-use Rattle.parsing.specs.Search.{any}
-use Rattle.parsing.proofs.Laws.Search.{any-false, any-some, refuse-all}
+use Rattle.records.specs.Search.{any}
+use Rattle.records.proofs.Laws.Search.{any-false, any-some, refuse-all}
 use Rattle.reading.specs.Edge.{single, double, diagram, descending, justOf, conflictOf, chainRuleOf, ruleOf, rulesOf, doubleFrom, doubledOf, doublesOf}
 use Rattle.reading.specs.Readable.{Edge, DoubleTransition}
 use Rattle.reading.proofs.Laws.Stage.{Stages}

@@ -12,13 +12,13 @@ use native.Mathlib.Omega.{arith}
 use lib.ListN.{length, drop}
 use Rattle.integers.specs.declared.Interval.{Interval}
 use Rattle.integers.specs.Interval.{Bounded}
-use Rattle.parsing.specs.declared.walk.Walked.{Walked}
-use Rattle.parsing.specs.declared.walk.Walked.the-variants.{End}
-use Rattle.parsing.specs.Kind.{signatureAt}
-use Rattle.parsing.specs.Walk.{andThen, inSequence, walkOf, span}
-use Rattle.parsing.proofs.Laws.Kind.{variable-named}
-use Rattle.parsing.proofs.Laws.Walk.{walk-opens, walk-deepest, walk-bound}
-use Rattle.parsing.proofs.Laws.Span.{walk-span}
+use Rattle.records.specs.declared.walk.Walked.{Walked}
+use Rattle.records.specs.declared.walk.Walked.the-variants.{End}
+use Rattle.records.specs.Kind.{signatureAt}
+use Rattle.records.specs.Walk.{andThen, inSequence, walkOf, span}
+use Rattle.records.proofs.Laws.Kind.{variable-named}
+use Rattle.records.proofs.Laws.Walk.{walk-opens, walk-deepest, walk-bound}
+use Rattle.records.proofs.Laws.Span.{walk-span}
 use Rattle.reading.specs.Readable.{Expression, Operands, Opened}
 use Rattle.reading.proofs.Laws.Interval.{Analysed, analysis-opens, analysis-bounded, analysis-walk}
 

@@ -4,8 +4,8 @@ use mathlib.Core.List.{List}
 use Prim.Native.Nat.{ℕ, _+_}
 use native.Mathlib.Omega.{arith}
 use Rattle.parsing.specs.declared.outline.Outline.{Outline}
-use Rattle.parsing.specs.Kind.{truth}
-use Rattle.parsing.proofs.Laws.Walk.{walk-bound}
+use Rattle.records.specs.Kind.{truth}
+use Rattle.records.proofs.Laws.Walk.{walk-bound}
 use Rattle.parsing.proofs.Laws.Section.{kind-here}
 use Rattle.parsing.proofs.Laws.Outline.{Parses}
 use Rattle.parsing.proofs.Laws.Parsed.{variables-most, variable-range, transitions-most, nodes-most, edges-end, edge-transition}

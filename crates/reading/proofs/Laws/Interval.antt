@@ -18,13 +18,13 @@ use lib.Dec.{ltb}
 use Rattle.integers.specs.declared.Interval.{Interval}
 use Rattle.integers.specs.Interval.{inBounds, Bounded}
 use Rattle.integers.proofs.Laws.Interval.{bounded}
-use Rattle.parsing.specs.declared.kinds.Form.{Form}
-use Rattle.parsing.specs.declared.kinds.Form.the-variants.{Constant, Variable, Arithmetic, Indicator, Literal, Negation, Connective, Comparison, Unfit}
-use Rattle.parsing.specs.declared.walk.Walked.{Walked}
-use Rattle.parsing.specs.Record.{kindAt}
-use Rattle.parsing.specs.Kind.{formOf, signatureOf, formAt, signatureAt}
-use Rattle.parsing.specs.Walk.{walkOf, spans, span}
-use Rattle.parsing.proofs.Laws.Span.{walk-span}
+use Rattle.records.specs.declared.kinds.Form.{Form}
+use Rattle.records.specs.declared.kinds.Form.the-variants.{Constant, Variable, Arithmetic, Indicator, Literal, Negation, Connective, Comparison, Unfit}
+use Rattle.records.specs.declared.walk.Walked.{Walked}
+use Rattle.records.specs.Record.{kindAt}
+use Rattle.records.specs.Kind.{formOf, signatureOf, formAt, signatureAt}
+use Rattle.records.specs.Walk.{walkOf, spans, span}
+use Rattle.records.proofs.Laws.Span.{walk-span}
 use Rattle.reading.specs.declared.intervals.Analysis.{Analysis}
 use Rattle.reading.specs.declared.intervals.Analysis.the-variants.{Within, Out}
 use Rattle.reading.specs.Interval.{unit, leafOf, joinOf, ownOf, andInterval, byOperands, analysisOf}

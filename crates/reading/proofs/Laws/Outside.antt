@@ -13,13 +13,13 @@ use lib.ListN.{length}
 use lib.Dec.{ltb, eqb}
 use Rattle.integers.specs.declared.Interval.{Interval}
 use Rattle.integers.specs.Interval.{inBounds}
-use Rattle.parsing.specs.declared.walk.Walked.{Walked}
-use Rattle.parsing.specs.declared.walk.Walked.the-variants.{End}
+use Rattle.records.specs.declared.walk.Walked.{Walked}
+use Rattle.records.specs.declared.walk.Walked.the-variants.{End}
 use Rattle.parsing.specs.declared.outline.Outline.{Outline}
-use Rattle.parsing.specs.Record.{kindAt, kindIs}
-use Rattle.parsing.specs.Kind.{none, formOf, signatureOf, formAt, signatureAt}
-use Rattle.parsing.specs.Walk.{inSequence, walkOf}
-use Rattle.parsing.proofs.Laws.Walk.{walk-opens, walk-deepest}
+use Rattle.records.specs.Record.{kindAt, kindIs}
+use Rattle.records.specs.Kind.{none, formOf, signatureOf, formAt, signatureAt}
+use Rattle.records.specs.Walk.{inSequence, walkOf}
+use Rattle.records.proofs.Laws.Walk.{walk-opens, walk-deepest}
 use Rattle.parsing.proofs.Laws.Through.{at-end}
 use Rattle.parsing.proofs.Laws.Outline.{Parses}
 use Rattle.reading.specs.declared.intervals.Analysis.{Analysis}

@@ -19,13 +19,13 @@ use borrow.Author.Tests.{eq-eqb, eqb-true}
 use lib.ListN.{length, getD}
 use lib.Dec.{leb, eqb}
 use lib.Signed.{_≤ℤ_}
-use Rattle.parsing.specs.declared.walk.Walked.{Walked}
+use Rattle.records.specs.declared.walk.Walked.{Walked}
 use Rattle.parsing.specs.declared.outline.Outline.{Outline}
-use Rattle.parsing.specs.Record.{fieldA, fieldB, fieldC, fieldD, valueB, valueC, zerosOf}
-use Rattle.parsing.specs.Walk.{inSequence}
+use Rattle.records.specs.Record.{fieldA, fieldB, fieldC, fieldD, valueB, valueC, zerosOf}
+use Rattle.records.specs.Walk.{inSequence}
 use Rattle.parsing.specs.Section.{noFields, propertyFields, expressionsOf, phasesOr, transitionOf, nodeOf, nodesOf}
-use Rattle.parsing.specs.Place.{placeOf, placesOf}
-use Rattle.parsing.proofs.Laws.Place.{places-nth}
+use Rattle.records.specs.Place.{placeOf, placesOf}
+use Rattle.records.proofs.Laws.Place.{places-nth}
 use Rattle.parsing.proofs.Laws.Section.{items-most}
 use Rattle.parsing.proofs.Laws.Outline.{Parses}
 use Rattle.parsing.proofs.Laws.Parsed as parsed

@@ -10,18 +10,18 @@ use lib.ListN.{length}
 use lib.Dec.{ltb, leb, eqb}
 use Rattle.integers.specs.declared.Interval.{Interval}
 use Rattle.integers.specs.Interval.{inBounds}
-use Rattle.parsing.specs.declared.walk.Walked.{Walked}
+use Rattle.records.specs.declared.walk.Walked.{Walked}
 use Rattle.parsing.specs.declared.outline.Outline.{Outline}
 use Rattle.parsing.specs.declared.outline.Parsed.{Parsed}
-use Rattle.parsing.specs.Record.{kindAt}
-use Rattle.parsing.specs.Kind.{none, formAt, signatureAt}
+use Rattle.records.specs.Record.{kindAt}
+use Rattle.records.specs.Kind.{none, formAt, signatureAt}
 use Rattle.parsing.specs.Outline.{parsedOf}
 use Rattle.parsing.specs.Refusal.{Refuses}
 use Rattle.parsing.proofs.Laws.Refusal.{Refusing, walked, refused, by-test, refuses-more, walked-ends, parse-refuses}
 use Rattle.parsing.proofs.Laws.Outline.{Parses, parses}
 use Rattle.reading.specs.declared.Reading.{Reading}
 use Rattle.reading.specs.declared.intervals.Analysis.{Analysis}
-use Rattle.parsing.specs.Search.{refuseFirst}
+use Rattle.records.specs.Search.{refuseFirst}
 use Rattle.reading.specs.States.{sizeOf, statesOf}
 use Rattle.reading.specs.Interval.{unit, leafOf, joinOf, ownOf, andInterval, byOperands, analysisOf, andExpression, analysedFrom, intervalsOf}
 use Rattle.reading.specs.Edge.{diagram, ruleOf, rulesOf, doubledOf, doublesOf}

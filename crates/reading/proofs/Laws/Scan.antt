@@ -12,13 +12,13 @@ use lib.ListN.{length, getD, set, replicate, length-set}
 use lib.Seq.{getD-set-same, getD-set-other}
 use lib.Dec.{ltb, leb, eqb}
 use Rattle.integers.specs.declared.Interval.{Interval}
-use Rattle.parsing.specs.declared.walk.Walked.{Walked}
+use Rattle.records.specs.declared.walk.Walked.{Walked}
 use Rattle.parsing.specs.declared.outline.Outline.{Outline}
-use Rattle.parsing.specs.Record.{kindAt, fieldA, kindIs, zerosOf}
-use Rattle.parsing.specs.Kind.{none, number, truth, within, formOf, signatureOf, signatureAt}
-use Rattle.parsing.specs.Walk.{andThen, walkOf, truthOf}
+use Rattle.records.specs.Record.{kindAt, fieldA, kindIs, zerosOf}
+use Rattle.records.specs.Kind.{none, number, truth, within, formOf, signatureOf, signatureAt}
+use Rattle.records.specs.Walk.{andThen, walkOf, truthOf}
 use Rattle.parsing.specs.Section.{noFields, transitionFields, assignmentFields, assignmentsOf, transitionOf, transitionsOf, expressionsOf, phasesOr, nodeOf, nodesOf}
-use Rattle.parsing.proofs.Laws.Walk.{walk-opens}
+use Rattle.records.proofs.Laws.Walk.{walk-opens}
 use Rattle.parsing.proofs.Laws.Section.{items-reach, sequence-reach}
 use Rattle.parsing.proofs.Laws.Parsed.{variables-most}
 use Rattle.parsing.proofs.Laws.Through as through

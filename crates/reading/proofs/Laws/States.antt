@@ -8,7 +8,7 @@ use native.Mathlib.Nat.{mul-assoc, mul-one, one-mul, mul-pos}
 use native.Mathlib.Omega.{arith}
 use borrow.Author.Tests.{leb-true}
 use lib.Dec.{leb}
-use Rattle.parsing.specs.declared.walk.Walked.{Walked}
+use Rattle.records.specs.declared.walk.Walked.{Walked}
 use Rattle.reading.specs.States.{sizeOf, statesOf, productOf}
 
 module _ (file : List ℕ) where

@@ -8,15 +8,15 @@ use native.Mathlib.Omega.{arith}
 use borrow.Author.Tests.{eq-eqb, ne-eqb, lt-ltb, le-ltb}
 use lib.Dec.{eqb}
 use lib.ListN.{length, getD}
-use Rattle.parsing.specs.declared.walk.Walked.{Walked}
+use Rattle.records.specs.declared.walk.Walked.{Walked}
 use Rattle.parsing.specs.declared.outline.Outline.{Outline}
-use Rattle.parsing.specs.Record.{fieldA, fieldB, fieldC, fieldD}
-use Rattle.parsing.specs.Walk.{inSequence}
+use Rattle.records.specs.Record.{fieldA, fieldB, fieldC, fieldD}
+use Rattle.records.specs.Walk.{inSequence}
 use Rattle.parsing.specs.Section.{transitionOf}
-use Rattle.parsing.specs.Place.{placeOf, placesOf}
+use Rattle.records.specs.Place.{placeOf, placesOf}
 use Rattle.parsing.proofs.Laws.Section.{transitions-bound}
-use Rattle.parsing.proofs.Laws.Place.{places-nth}
-use Rattle.parsing.specs.Search.{any, refuseFirst}
+use Rattle.records.proofs.Laws.Place.{places-nth}
+use Rattle.records.specs.Search.{any, refuseFirst}
 use Rattle.reading.specs.Edge.{transitionAt, single, diagram, descending, justOf, conflictOf, chainRuleOf, ruleOf, doubledOf, doublesOf, Fits, EdgeFits}
 
 -- ---- where a transition stands

@@ -10,12 +10,12 @@ use denote.Enum.Declared.{tagOf}
 use borrow.Author.Tests.{lt-ltb, le-ltb, eq-eqb, ne-eqb}
 use lib.ListN.{length, getD}
 use Rattle.integers.specs.declared.Interval.{Interval}
-use Rattle.parsing.proofs.kinds.Form.{the-type}
-use Rattle.parsing.specs.declared.kinds.Form.{Form}
-use Rattle.parsing.specs.declared.kinds.Form.the-variants.{Constant, Variable, Arithmetic, Indicator, Literal, Negation, Connective, Comparison, Unfit}
-use Rattle.parsing.specs.declared.kinds.Signature.{Signature}
-use Rattle.parsing.specs.declared.walk.Walked.{Walked}
-use Rattle.parsing.specs.Kind.{none, formAt, signatureAt}
+use Rattle.records.proofs.kinds.Form.{the-type}
+use Rattle.records.specs.declared.kinds.Form.{Form}
+use Rattle.records.specs.declared.kinds.Form.the-variants.{Constant, Variable, Arithmetic, Indicator, Literal, Negation, Connective, Comparison, Unfit}
+use Rattle.records.specs.declared.kinds.Signature.{Signature}
+use Rattle.records.specs.declared.walk.Walked.{Walked}
+use Rattle.records.specs.Kind.{none, formAt, signatureAt}
 use Rattle.reading.specs.declared.intervals.Analysis.{Analysis}
 use Rattle.reading.specs.Interval.{unit, leafOf, joinOf, ownOf, byOperands, analysisOf, andExpression, analysedFrom, intervalsOf}
 

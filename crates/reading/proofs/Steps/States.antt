@@ -6,7 +6,7 @@ use Prim.Native.Nat.{ℕ, zero, suc, _+_, _-_, _*_, _<_, _≤_}
 use native.Mathlib.Numerals.{sub-one}
 use native.Mathlib.Omega.{arith}
 use borrow.Author.Tests.{le-leb, lt-leb}
-use Rattle.parsing.specs.declared.walk.Walked.the-variants.{End, Refused}
+use Rattle.records.specs.declared.walk.Walked.the-variants.{End, Refused}
 use Rattle.reading.specs.States.{sizeOf, statesOf}
 
 pub states-none : (file : List ℕ) (left at product : ℕ) → left ≤ 0 → statesOf file left at product ≡ End product

@@ -19,8 +19,8 @@ use lib.IntN.{ℤ, pos}
 use lib.ListN.{length, getD, set, List·getD-eq-default}
 use lib.Signed.{_≤ℤ_, ≤ℤ-refl}
 use Rattle.integers.proofs.Laws.Parts.{by-test, ≤ℤ-trans, ≤ℤ-antisym}
-use Rattle.parsing.specs.Record.{value, valueB, valueC}
-use Rattle.parsing.proofs.Laws.Place.{length-tabulate, getD-tabulate}
+use Rattle.records.specs.Record.{value, valueB, valueC}
+use Rattle.records.proofs.Laws.Place.{length-tabulate, getD-tabulate}
 use Rattle.states.specs.State.{endsOf, lowsOf, highsOf, Ranges, Within, State, Idle}
 use Rattle.states.specs.State.Ranges.{none as no-ranges, more as more-ranges}
 use Rattle.states.specs.State.Within.{none as no-values, more as more-values}

@@ -10,8 +10,8 @@ use lib.Dec.{ltb, eqb}
 use lib.IntN.{ℤ, pos}
 use lib.ListN.{getD, set, length, replicate, length-set}
 use lib.Seq.{getD-set-same, getD-set-other, ext-getD}
-use Rattle.parsing.specs.Record.{value}
-use Rattle.parsing.specs.Place.{tabulate}
+use Rattle.records.specs.Record.{value}
+use Rattle.records.specs.Place.{tabulate}
 use Rattle.states.specs.State.{endsOf}
 use Rattle.states.proofs.Laws.State.{ends-length, ends-at, ends-beyond}
 

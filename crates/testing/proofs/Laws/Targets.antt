@@ -19,13 +19,13 @@ use lib.ListN.{length, getD, replicate, getD-replicate}
 use lib.Dec.{eqb}
 use lib.IntN.{ℤ}
 use Rattle.parsing.specs.declared.outline.Outline.{Outline}
-use Rattle.parsing.specs.Record.{fieldB, fieldC}
-use Rattle.parsing.specs.Kind.{truth as truthSort}
+use Rattle.records.specs.Record.{fieldB, fieldC}
+use Rattle.records.specs.Kind.{truth as truthSort}
 use Rattle.parsing.specs.Section.{nodeOf, transitionOf, expressionsOf}
-use Rattle.parsing.specs.Place.{placeOf}
-use Rattle.parsing.specs.Search.{any}
-use Rattle.parsing.proofs.Laws.Place.{places-nth}
-use Rattle.parsing.proofs.Laws.Search.{any-some}
+use Rattle.records.specs.Place.{placeOf}
+use Rattle.records.specs.Search.{any}
+use Rattle.records.proofs.Laws.Place.{places-nth}
+use Rattle.records.proofs.Laws.Search.{any-some}
 use Rattle.parsing.proofs.Laws.Section.{kind-here}
 use Rattle.reading.specs.declared.Reading.{Reading}
 use Rattle.reading.specs.Edge.{diagram, transitionAt}

@@ -12,10 +12,10 @@ use lib.Seq.{getD-set-same, getD-set-other, ext-getD, set-at, drop-cons, getD-ta
 use lib.Dec.{eqb}
 use lib.IntN.{ℤ}
 use Rattle.parsing.specs.declared.outline.Outline.{Outline}
-use Rattle.parsing.specs.Record.{fieldC}
-use Rattle.parsing.specs.Place.{tabulate}
-use Rattle.parsing.specs.Search.{any}
-use Rattle.parsing.proofs.Laws.Place.{length-tabulate, getD-tabulate}
+use Rattle.records.specs.Record.{fieldC}
+use Rattle.records.specs.Place.{tabulate}
+use Rattle.records.specs.Search.{any}
+use Rattle.records.proofs.Laws.Place.{length-tabulate, getD-tabulate}
 use Rattle.reading.specs.declared.Reading.{Reading}
 use Rattle.reading.specs.Edge.{transitionAt}
 use Rattle.reading.specs.Read.{readOf}

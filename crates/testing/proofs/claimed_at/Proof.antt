@@ -2,7 +2,7 @@
 -- Assumes nothing.
 use mathlib.Core.Path.{sym, ap, _∙_}
 use native.Mathlib.Omega.{arith}
-use Rattle.parsing.specs.Place.{placeOf}
+use Rattle.records.specs.Place.{placeOf}
 use Rattle.reading.proofs.Laws.Readable as readable
 use Rattle.testing.specs.Diagram.{claimedAt}
 use borrow.Author.Needs.{needs}

@@ -4,7 +4,7 @@ use mathlib.Core.Path.{sym, _∙_}
 use mathlib.Core.Logic.{⊎-elim}
 use Prim.Native.Nat.{ℕ, _-_, _≤_, _<_}
 use native.Mathlib.Omega.{arith}
-use Rattle.parsing.specs.Record.{fieldC}
+use Rattle.records.specs.Record.{fieldC}
 use Rattle.reading.proofs.Laws.Readable.{nodes-within}
 use Rattle.conditions.specs.Edges.{carries}
 use Rattle.testing.specs.Testing.{marksOf}

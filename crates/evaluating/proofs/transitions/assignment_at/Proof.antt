@@ -4,7 +4,7 @@ use native.Mathlib.Omega.{arith}
 use lib.ListN.{length, getD}
 use mir.Syntax.{w64}
 use Rattle.integers.proofs.Laws.Parts.{back}
-use Rattle.parsing.specs.Kind.{number as numberSort}
+use Rattle.records.specs.Kind.{number as numberSort}
 use Rattle.evaluating.specs.Transition.{assignmentAt}
 use Rattle.expressions.proofs.Laws.Expression.{fits-here}
 use Rattle.expressions.proofs.Steps.Part.{take-rest, lent, entry, behind-is, behind-within}

@@ -4,7 +4,7 @@ use Prim.Native.Nat.{_+_, _*_, _≤_}
 use native.Mathlib.Omega.{arith}
 use lib.ListN.{length, getD}
 use borrow.Author.Tests.{not-true, not-false}
-use Rattle.parsing.specs.Kind.{truth as truthSort}
+use Rattle.records.specs.Kind.{truth as truthSort}
 use Rattle.evaluating.specs.Transition.{guardOf}
 use Rattle.expressions.proofs.Laws.Expression.{fits-here}
 use Rattle.expressions.proofs.Steps.Part.{take-rest, lent, entry, behind-is, behind-within}

@@ -4,7 +4,7 @@ use mathlib.Core.Path.{refl}
 use mathlib.Core.Bool.{true, false}
 use Prim.Native.Nat.{_+_, _*_, _-_}
 use native.Mathlib.Omega.{arith}
-use Rattle.parsing.specs.Record.{fieldC}
+use Rattle.records.specs.Record.{fieldC}
 use Rattle.conditions.specs.Edges.{pairAt}
 use Rattle.judging.specs.Acceptance.{edgeMarksOf}
 use Rattle.testing.proofs.Steps.Testing.{edge-here, Marked, marked-none, marked-end, marked-hit}

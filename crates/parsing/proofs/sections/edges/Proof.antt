@@ -6,7 +6,7 @@ use mathlib.Core.Path.{refl, sym, _∙_, _≡_}
 use Prim.Native.Nat.{_+_, _-_, _≤_}
 use Rattle.parsing.specs.Section.{edgeFields, itemsOf, repeatedOf, edgesOf}
 use mathlib.Core.Bool.{cond}
-use Rattle.parsing.specs.declared.walk.Walked.{Walked}
+use Rattle.records.specs.declared.walk.Walked.{Walked}
 use Rattle.parsing.proofs.Laws.Section.{kind-here}
 use Rattle.parsing.proofs.Steps.Section.{items-stop, items-field, items-over, items-ends, items-refused}
 use Rattle.parsing.proofs.sections.edges.Statement.{statement}

@@ -6,8 +6,8 @@ use mathlib.Core.Path.{sym, _∙_}
 use Prim.Native.Nat.{_-_, _/_, _≤_}
 use lib.ListN.{length}
 use Rattle.parsing.specs.Section.{nodeOf}
-use Rattle.parsing.proofs.Laws.Walk.{walk-bound}
-use Rattle.parsing.proofs.Steps.Place.{Filled, filled-begins, filled-done, filled-more, filled-refused}
+use Rattle.records.proofs.Laws.Walk.{walk-bound}
+use Rattle.records.proofs.Steps.Place.{Filled, filled-begins, filled-done, filled-more, filled-refused}
 use Rattle.parsing.proofs.sections.node_places.Statement.{statement}
 use Rattle.parsing.proofs.sections.node_places.Tie as tie
 

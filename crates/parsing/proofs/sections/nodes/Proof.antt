@@ -6,7 +6,7 @@ use borrow.Author.Tests.{not-true, not-false}
 use mathlib.Core.Path.{refl, sym, _∙_, _≡_}
 use Prim.Native.Nat.{_+_}
 use Rattle.parsing.specs.Section.{noFields, itemsOf, nodesOf}
-use Rattle.parsing.specs.Walk.{truthOf}
+use Rattle.records.specs.Walk.{truthOf}
 use Rattle.parsing.proofs.Laws.Section.{kind-here}
 use Rattle.parsing.proofs.Steps.Section.{items-stop, items-field, items-over, items-ends, items-refused}
 use Rattle.parsing.proofs.sections.nodes.Statement.{statement}

@@ -4,9 +4,9 @@ use native.Mathlib.Omega.{arith}
 use mathlib.Core.Path.{refl, sym, _∙_, _≡_}
 use Prim.Native.Nat.{_+_, _*_, _≤_}
 use Rattle.parsing.specs.Section.{repeatedOf}
-use Rattle.parsing.specs.Record.{sameBytes}
-use Rattle.parsing.specs.Search.{any}
-use Rattle.parsing.proofs.Laws.Search.{any-none, any-hit, any-next}
+use Rattle.records.specs.Record.{sameBytes}
+use Rattle.records.specs.Search.{any}
+use Rattle.records.proofs.Laws.Search.{any-none, any-hit, any-next}
 use Rattle.parsing.proofs.sections.repeated.Statement.{statement}
 use Rattle.parsing.proofs.sections.repeated.Tie as tie
 

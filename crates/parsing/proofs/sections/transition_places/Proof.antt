@@ -7,7 +7,7 @@ use Prim.Native.Nat.{_-_, _/_, _≤_}
 use lib.ListN.{length}
 use Rattle.parsing.specs.Section.{transitionOf}
 use Rattle.parsing.proofs.Laws.Section.{transition-bound}
-use Rattle.parsing.proofs.Steps.Place.{Filled, filled-begins, filled-done, filled-more, filled-refused}
+use Rattle.records.proofs.Steps.Place.{Filled, filled-begins, filled-done, filled-more, filled-refused}
 use Rattle.parsing.proofs.sections.transition_places.Statement.{statement}
 use Rattle.parsing.proofs.sections.transition_places.Tie as tie
 

@@ -2,7 +2,7 @@
 -- Assumes nothing.
 use native.Mathlib.Omega.{arith}
 use mathlib.Core.Path.{sym, ap, _∙_}
-use Rattle.parsing.specs.Kind.{signatureOf}
+use Rattle.records.specs.Kind.{signatureOf}
 use Prim.Native.Nat.{ℕ, _<_}
 use borrow.Author.Needs.{needs}
 use Rattle.reading.proofs.Steps.Interval.{analyse-deep, analyse-short, analyse-step, by-none, by-out, by-one, by-two-out, by-two, own-same, own-join}
@@ -16,8 +16,8 @@ use Rattle.reading.proofs.intervals.+analyse.Lts-analyse as analyse-lts
 use Rattle.reading.proofs.intervals.join.Reads as join-reads
 use Rattle.reading.proofs.intervals.leaf.Reads as leaf-reads
 use Rattle.reading.proofs.intervals.own.Reads as own-reads
-use Rattle.parsing.proofs.kinds.form_of.Reads as form-of-reads
-use Rattle.parsing.proofs.kinds.signature_of.Reads as signature-of-reads
+use Rattle.records.proofs.kinds.form_of.Reads as form-of-reads
+use Rattle.records.proofs.kinds.signature_of.Reads as signature-of-reads
 use Rattle.reading.proofs.intervals.+analyse.{statement}
 use Rattle.reading.proofs.intervals.+analyse.Tie.{close}
 

@@ -1,0 +1,6 @@
+-- Laws of the definitions, for the proofs here and in the crates above.
+pub mod Kind
+pub mod Walk
+pub mod Span
+pub mod Search
+pub mod Place

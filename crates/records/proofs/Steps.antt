@@ -1,0 +1,5 @@
+-- The definitions one step at a time, as the code goes.
+pub mod Record
+pub mod Walk
+pub mod Kind
+pub mod Place

@@ -1,0 +1,127 @@
+-- `records::walk::walk` meets its contract, by the tests in their order; in the loop the operands left say what all of them do. The measure is the
+-- levels left. Assumes nothing.
+use mathlib.Core.Path.{_≡_, refl, sym, _∙_}
+use native.Mathlib.Omega.{arith}
+use borrow.Author.Needs.{needs}
+use borrow.Author.Tests.{not-true, not-false}
+use Rattle.records.proofs.Steps.Walk.{sequence-ends, sequence-refused, sequence-none, walk-short, walk-unfit, walk-field, walk-deep, walk-step}
+use Rattle.records.specs.Walk.{inSequence, walkOf}
+use Prim.Native.Nat.{ℕ, _+_, _-_, _<_}
+use borrow.Fn.Kinds.{In}
+use borrow.Fn.PlainCycle.{Measures, is, falls, and}
+use Rattle.records.proofs.walk.walk.Reads as walk
+use Rattle.records.proofs.walk.walk.Kinds as walk-kinds
+use Rattle.records.proofs.walk.+walk.Lts-walk as walk-lts
+use Rattle.records.proofs.walk.expression_fields.Reads as expression-fields-reads
+use Rattle.records.proofs.kinds.signature_at.Reads as signature-at-reads
+use Rattle.records.proofs.walk.+walk.{statement}
+use Rattle.records.proofs.walk.+walk.Tie.{close}
+
+abbrev μ-walk : Measures 1 walk-kinds.ps ℕ
+μ-walk κs a = a .1 .1 .1 .1 .0
+
+abbrev walk-at : ℕ → In 1 walk-kinds.ps
+walk-at t = and 1 walk-kinds.ps (is 1 walk-kinds.ps μ-walk t) walk.Pre
+
+abbrev walk-below : ℕ → In 1 walk-kinds.ps
+walk-below t = and 1 walk-kinds.ps (falls 1 walk-kinds.ps _<_ μ-walk t) walk.Pre
+
+abbrev others : ℕ → walk-lts.Claims
+others t = (signature-at-reads.Asked, signature-at-reads.Learnt, expression-fields-reads.Asked, expression-fields-reads.Learnt, walk-below t, walk.Post)
+
+abbrev walk-Inv-loop : walk-lts.InvT-loop
+walk-Inv-loop file at want vars levels sort over left₀ next₀ left next =
+    inSequence (walkOf file vars (levels - 1) over) left₀ next₀ ≡ inSequence (walkOf file vars (levels - 1) over) left next
+
+abbrev walk-μ-loop : walk-lts.MeasureT-loop
+walk-μ-loop file at want vars levels sort over left₀ next₀ left next = left
+
+walk-returns : (t : ℕ) → walk-lts.Need-returns (others t) (walk-at t) walk.Post walk-Inv-loop walk-μ-loop
+walk-returns t c = sym (walk-short _ _ _ _ _ (c .if1 .taken))
+
+walk-signature-at-requires : (t : ℕ) → walk-lts.Need-signature-at-requires (others t) (walk-at t) walk.Post walk-Inv-loop walk-μ-loop
+walk-signature-at-requires t c κs = omega arith
+
+walk-returns-2 : (t : ℕ) → walk-lts.Need-returns-2 (others t) (walk-at t) walk.Post walk-Inv-loop walk-μ-loop
+walk-returns-2 t c = sym (walk-unfit _ _ _ _ _ (c .before .signature-at .ensures) (c .before .before .if1 .left) _ (c .if2 .taken))
+
+walk-expression-fields-requires : (t : ℕ) → walk-lts.Need-expression-fields-requires (others t) (walk-at t) walk.Post walk-Inv-loop walk-μ-loop
+walk-expression-fields-requires t c κs = omega arith
+
+walk-returns-3 : (t : ℕ) → walk-lts.Need-returns-3 (others t) (walk-at t) walk.Post walk-Inv-loop walk-μ-loop
+walk-returns-3 t c = sym (walk-field _ _ _ _ _ (c .before .before .before .signature-at .ensures) (c .before .before .before .before .if1 .left) (c .before .before .if2 .left) _ (sym (c .before .expression-fields .ensures) ∙ not-true _ (c .if3 .taken)))
+
+walk-returns-4 : (t : ℕ) → walk-lts.Need-returns-4 (others t) (walk-at t) walk.Post walk-Inv-loop walk-μ-loop
+walk-returns-4 t c = sym (walk-deep _ _ _ _ _ (c .before .before .before .before .signature-at .ensures) (c .before .before .before .before .before .if1 .left) (c .before .before .before .if2 .left) (sym (c .before .before .expression-fields .ensures) ∙ not-false _ (c .before .if3 .left)) _ (c .if4 .taken))
+
+walk-add-next : (t : ℕ) → walk-lts.Need-add-next (others t) (walk-at t) walk.Post walk-Inv-loop walk-μ-loop
+walk-add-next t c = omega arith
+
+walk-loop-holds : (t : ℕ) → walk-lts.Need-loop-holds (others t) (walk-at t) walk.Post walk-Inv-loop walk-μ-loop
+walk-loop-holds t c = refl
+
+-- where the loop begins: the walk is that of the operands
+begun : (t : ℕ) (c : walk-lts.Else4 (others t) (walk-at t) walk.Post walk-Inv-loop walk-μ-loop) →
+    let a = c .before .before .before .before .before .before .before .args in
+    let s = c .before .before .before .before .signature-at .result in
+    walkOf (a .file .now) (a .vars) (a .levels) (a .want) (a .at) ≡ inSequence (walkOf (a .file .now) (a .vars) (a .levels - 1) (s .over)) (s .operands) (a .at + 1)
+begun t c =
+    walk-step _ _ _ _ _ (c .before .before .before .before .signature-at .ensures) (c .before .before .before .before .before .if1 .left)
+    (c .before .before .before .if2 .left) (sym (c .before .before .expression-fields .ensures) ∙ not-false _ (c .before .if3 .left)) _ (c .if4 .left)
+
+walk-sub-walk : (t : ℕ) → walk-lts.Need-sub-walk (others t) (walk-at t) walk.Post walk-Inv-loop walk-μ-loop
+walk-sub-walk t c = omega arith
+
+walk-walk-requires : (t : ℕ) → walk-lts.Need-walk-requires (others t) (walk-at t) walk.Post walk-Inv-loop walk-μ-loop
+walk-walk-requires t c κs = (omega (arith, c .before .before .before .before .before .before .before .before .before .pre .0), tt)
+
+walk-enum-known-operand : (t : ℕ) → walk-lts.Need-enum-known-operand (others t) (walk-at t) walk.Post walk-Inv-loop walk-μ-loop
+walk-enum-known-operand t c = search needs
+
+walk-enum-known-operand-2 : (t : ℕ) → walk-lts.Need-enum-known-operand-2 (others t) (walk-at t) walk.Post walk-Inv-loop walk-μ-loop
+walk-enum-known-operand-2 t c = search needs
+
+walk-returns-5 : (t : ℕ) → walk-lts.Need-returns-5 (others t) (walk-at t) walk.Post walk-Inv-loop walk-μ-loop
+walk-returns-5 t c =
+    let l = c .before .before .before .before .before in
+    sym
+    (begun t (l .before) ∙ l .loop .inv ∙ sequence-refused _ _ _ _ _ (c .before .before .before .before .loop-test .taken)
+    (sym (c .before .before .before .walk .ensures) ∙ c .before .operand2 .given .1))
+
+walk-sub-left : (t : ℕ) → walk-lts.Need-sub-left (others t) (walk-at t) walk.Post walk-Inv-loop walk-μ-loop
+walk-sub-left t c = omega arith
+
+walk-loop-less : (t : ℕ) → walk-lts.Need-loop-less (others t) (walk-at t) walk.Post walk-Inv-loop walk-μ-loop
+walk-loop-less t c = omega arith
+
+walk-loop-again : (t : ℕ) → walk-lts.Need-loop-again (others t) (walk-at t) walk.Post walk-Inv-loop walk-μ-loop
+walk-loop-again t c =
+    c .before .before .before .before .before .loop .inv ∙ sequence-ends _ _ _ _ (c .before .before .before .before .loop-test .taken)
+    (sym (c .before .before .before .walk .ensures) ∙ c .before .operand .given .1)
+
+walk-returns-6 : (t : ℕ) → walk-lts.Need-returns-6 (others t) (walk-at t) walk.Post walk-Inv-loop walk-μ-loop
+walk-returns-6 t c = sym (begun t (c .before .before) ∙ c .before .loop .inv ∙ sequence-none _ _ _ (c .loop-test .left))
+
+pub +walk-spec : {M : Type 1} → statement M
++walk-spec = close μ-walk λ t. walk-lts.spec (others t)
+    (walk-at t)
+    walk.Post
+    walk-Inv-loop
+    walk-μ-loop
+    (walk-returns t)
+    (walk-signature-at-requires t)
+    (walk-returns-2 t)
+    (walk-expression-fields-requires t)
+    (walk-returns-3 t)
+    (walk-returns-4 t)
+    (walk-add-next t)
+    (walk-loop-holds t)
+    (walk-sub-walk t)
+    (walk-walk-requires t)
+    (walk-enum-known-operand t)
+    (walk-enum-known-operand-2 t)
+    (walk-returns-5 t)
+    (walk-sub-left t)
+    (walk-loop-less t)
+    (walk-loop-again t)
+    (walk-returns-6 t)

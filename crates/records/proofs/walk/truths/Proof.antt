@@ -1,0 +1,58 @@
+-- `records::walk::truths` meets its contract: the expressions left say what all of them do.
+-- Assumes nothing.
+use borrow.Author.Needs.{needs}
+use native.Mathlib.Omega.{arith}
+use mathlib.Core.Path.{refl, sym, _∙_, _≡_}
+use Rattle.records.specs.Walk.{inSequence, truthOf}
+use Rattle.records.proofs.Steps.Walk.{sequence-none, sequence-ends, sequence-refused}
+use Rattle.records.proofs.walk.truths.Statement.{statement}
+use Rattle.records.proofs.walk.truths.Tie as tie
+
+abbrev Inv-loop : tie.InvT-loop
+Inv-loop file vars n at left₀ next₀ left next = inSequence (truthOf file vars) n at ≡ inSequence (truthOf file vars) left next
+
+abbrev μ-loop : tie.MeasureT-loop
+μ-loop file vars n at left₀ next₀ left next = left
+
+loop-holds : tie.Need-loop-holds Inv-loop μ-loop
+loop-holds c = refl
+
+walk-requires : tie.Need-walk-requires Inv-loop μ-loop
+walk-requires c κs = tt
+
+enum-known-part : tie.Need-enum-known-part Inv-loop μ-loop
+enum-known-part c = search needs
+
+enum-known-part-2 : tie.Need-enum-known-part-2 Inv-loop μ-loop
+enum-known-part-2 c = search needs
+
+returns : tie.Need-returns Inv-loop μ-loop
+returns c = sym (c .before .before .before .before .before .loop .inv ∙ sequence-refused _ _ _ _ _ (c .before .before .before .before .loop-test .taken) (sym (c .before .before .before .walk .ensures) ∙ c .before .part2 .given .1))
+
+sub-left : tie.Need-sub-left Inv-loop μ-loop
+sub-left c = omega arith
+
+loop-less : tie.Need-loop-less Inv-loop μ-loop
+loop-less c = omega arith
+
+loop-again : tie.Need-loop-again Inv-loop μ-loop
+loop-again c = c .before .before .before .before .before .loop .inv ∙ sequence-ends _ _ _ _ (c .before .before .before .before .loop-test .taken) (sym (c .before .before .before .walk .ensures) ∙ c .before .part .given .1)
+
+returns-2 : tie.Need-returns-2 Inv-loop μ-loop
+returns-2 c = sym (c .before .loop .inv ∙ sequence-none _ _ _ (c .loop-test .left))
+
+pub truths-spec : {M : Type 1} → statement M
+truths-spec =
+    tie.close
+    (tie.spec
+    Inv-loop
+    μ-loop
+    loop-holds
+    walk-requires
+    enum-known-part
+    enum-known-part-2
+    returns
+    sub-left
+    loop-less
+    loop-again
+    returns-2)

@@ -1,0 +1,57 @@
+-- The walk of an expression: "Expressions stand in prefix order .. An expression nests at most 16 deep, its outermost record counted as 1." It ends
+-- behind the expression's last record, or at the first refusal 3, 4 or 5 of its records, tried in that order at each.
+use Prim.Native.Nat.{ℕ, zero, suc, _+_, _*_, _/_}
+use mathlib.Core.Bool.{Bool, cond, _&&_}
+use mathlib.Core.List.{List}
+use lib.ListN.{length, getD, drop}
+use lib.Dec.{ltb, eqb}
+use Rattle.records.specs.declared.walk.Walked.{Walked}
+use Rattle.records.specs.declared.walk.Walked.the-variants.{End, Refused}
+use Rattle.records.specs.Record.{kindAt, fieldA, zerosOf}
+use Rattle.records.specs.Kind.{truth, formOf, signatureOf, signatureAt}
+
+-- "Fields not named for a kind are zero": a constant (10) names b, a variable (11) a, any other record of an expression none
+unfoldable pub expressionFields : List ℕ → ℕ → ℕ → Bool
+expressionFields file vars at =
+    cond (eqb (kindAt file at) 0x10) (zerosOf file (8 * at + 1) 1 && zerosOf file (8 * at + 4) 4)
+    (cond (eqb (kindAt file at) 0x11) (ltb (fieldA file at) vars && zerosOf file (8 * at + 2) 6)
+    (zerosOf file (8 * at + 1) 7))
+
+-- the walk goes on behind `end`, or its refusal stands
+abbrev pub andThen : Walked → (ℕ → Walked) → Walked
+andThen (End end) next = next end
+andThen (Refused number place) next = Refused number place
+
+-- n parts, one behind the other, each walked by `part`
+unfoldable pub inSequence : (ℕ → Walked) → ℕ → ℕ → Walked
+inSequence part zero at = End at
+inSequence part (suc n) at = andThen (part at) (inSequence part n)
+
+-- the record at `at` by itself, then `rest`: 3 where the file ends before it or its kind is not of the sort wanted, 4 where a field has a value not
+-- allowed
+unfoldable pub recordThen : List ℕ → ℕ → ℕ → ℕ → Walked → Walked
+recordThen file vars want at rest =
+    cond (ltb at (length file / 8) && eqb (signatureAt file at .sort) want)
+    (cond (expressionFields file vars at) rest (Refused 4 at))
+    (Refused 3 at)
+
+-- the expression of sort `want` at record `at`, with `levels` nesting levels left; with none left its record is one past the limit, 5
+unfoldable pub walkOf : List ℕ → ℕ → ℕ → ℕ → ℕ → Walked
+walkOf file vars zero want at = recordThen file vars want at (Refused 5 at)
+walkOf file vars (suc levels) want at =
+    recordThen file vars want at
+    (inSequence (walkOf file vars levels (signatureAt file at .over)) (signatureAt file at .operands) (at + 1))
+
+-- a whole truth expression
+abbrev pub truthOf : List ℕ → ℕ → ℕ → Walked
+truthOf file vars at = walkOf file vars 16 truth at
+
+-- ---- the number of records of the expression that begins a part, from the kind bytes alone
+-- k records, and behind them n operands, each with the number of records that `operand` gives
+unfoldable pub spans : (List ℕ → ℕ) → ℕ → ℕ → List ℕ → ℕ
+spans operand zero k part = k
+spans operand (suc n) k part = spans operand n (k + operand (drop (8 * k) part)) part
+
+unfoldable pub span : ℕ → List ℕ → ℕ
+span zero part = 0
+span (suc levels) part = spans (span levels) (signatureOf (formOf (getD part 0 0)) .operands) 1 part

@@ -13,7 +13,7 @@ use Rattle.records.specs.Record
 use Rattle.records.specs.Kind
 use Rattle.records.specs.Walk
 use Rattle.records.specs.Place
-use Rattle.reading.specs.Interval
+use Rattle.intervals.specs.Interval
 use Rattle.reading.proofs.Files
 use Rattle.reading.proofs.Files.{agree, range, transition, assignment, constant, variable, plain}
 use Rattle.evaluating.specs.declared.transitions.Stepped.{Stepped}

@@ -16,7 +16,7 @@ use Rattle.records.specs.Record.{kindAt, fieldA, valueB}
 use Rattle.records.specs.Kind.{formAt, signatureAt}
 use Rattle.records.specs.Kind.{number as numberSort}
 use Rattle.records.specs.Walk.{span}
-use Rattle.reading.specs.Interval.{combine}
+use Rattle.intervals.specs.Interval.{combine}
 
 -- ---- parts
 -- the part of a file, or of a part, that begins at record `at`

@@ -16,7 +16,7 @@ use Rattle.parsing.specs.Outline
 use Rattle.reading.specs.declared.Reading.{Reading}
 use Rattle.records.specs.Search
 use Rattle.reading.specs.States
-use Rattle.reading.specs.Interval
+use Rattle.intervals.specs.Interval
 use Rattle.reading.specs.Edge
 use Rattle.reading.specs.Read
 use Rattle.reading.specs.Read.{readOf}

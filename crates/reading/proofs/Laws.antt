@@ -1,7 +1,5 @@
 -- Laws of the definitions, for the proofs here and in the crates above.
 pub mod Fits
-pub mod Interval
-pub mod Expression
 pub mod Outside
 pub mod Stage
 pub mod States

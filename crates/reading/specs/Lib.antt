@@ -1,6 +1,5 @@
 -- Refusals 7 to 10, in their order, and the whole.
 pub mod States
-pub mod Interval
 pub mod Edge
 pub mod Read
 pub mod Readable

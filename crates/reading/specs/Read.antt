@@ -8,7 +8,7 @@ use Rattle.parsing.specs.declared.outline.Parsed.{Parsed}
 use Rattle.parsing.specs.Outline.{parsedOf}
 use Rattle.reading.specs.States.{statesOf}
 use Rattle.reading.specs.declared.Reading.{Reading}
-use Rattle.reading.specs.Interval.{intervalsOf}
+use Rattle.intervals.specs.Interval.{intervalsOf}
 use Rattle.reading.specs.Edge.{rulesOf, doublesOf}
 
 -- a refusal stands, or the next stage decides

@@ -8,7 +8,6 @@ ghost use Rattle.reading.specs.Edge.{Fits};
 ghost use Rattle.reading.specs.Read.{stagesRead, readOf};
 
 pub mod edges;
-pub mod intervals;
 pub mod states;
 
 // The outline of a readable file, or the refusal that meets it, with its number and its place.

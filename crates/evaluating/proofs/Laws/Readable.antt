@@ -23,11 +23,12 @@ use Rattle.records.specs.Kind.{number as numberSort, truth as truthSort}
 use Rattle.parsing.specs.Section.{expressionsOf}
 use Rattle.parsing.proofs.Laws.Section.{kind-here}
 use Rattle.reading.specs.declared.Reading.{Reading}
-use Rattle.reading.specs.Interval.{interval}
+use Rattle.intervals.specs.Interval.{interval}
 use Rattle.reading.specs.States.{productOf}
 use Rattle.reading.specs.Read.{readOf}
-use Rattle.reading.specs.Readable.{Expression, Apart, Assignments}
-use Rattle.reading.proofs.Laws.Expression.{expression-span, expression-within}
+use Rattle.intervals.specs.Expression.{Expression}
+use Rattle.reading.specs.Readable.{Apart, Assignments}
+use Rattle.intervals.proofs.Laws.Expression.{expression-span, expression-within}
 use Rattle.reading.proofs.Laws.Readable as readable
 use Rattle.expressions.specs.Expression.{partAt, Fits}
 use Rattle.states.specs.State.{lowsOf, highsOf, Ranges, State}

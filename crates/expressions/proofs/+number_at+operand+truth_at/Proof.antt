@@ -13,7 +13,7 @@ use Rattle.records.specs.declared.kinds.Form.the-variants.{Arithmetic, Connecti
 use Rattle.records.specs.Record.{kindAt, fieldA}
 use Rattle.records.specs.Kind.{within, formOf, signatureOf}
 use Rattle.records.specs.Kind.{number as numberSort, truth as truthSort}
-use Rattle.reading.specs.Interval.{combine}
+use Rattle.intervals.specs.Interval.{combine}
 use Rattle.expressions.specs.Expression.{connectOf}
 use Rattle.expressions.proofs.Laws.Expression.{fits-record}
 use Rattle.expressions.proofs.Steps.Expression.{number-kinds, truth-kinds, Two, there, level, one, two, left-small, right-small}

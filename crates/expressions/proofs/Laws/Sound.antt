@@ -23,9 +23,9 @@ use Rattle.records.specs.Record.{kindAt, fieldA, valueB, valueC}
 use Rattle.records.specs.Kind.{formOf, formAt, signatureOf, signatureAt}
 use Rattle.records.specs.Kind.{number as numberSort}
 use Rattle.records.specs.Walk.{span}
-use Rattle.reading.specs.Interval.{interval, unit, leafOf, combine, joinOf}
-use Rattle.reading.specs.Readable.{Expression, Operands}
-use Rattle.reading.proofs.Laws.Expression.{expression-opens, expression-deepest, expression-bounded, expression-span}
+use Rattle.intervals.specs.Interval.{interval, unit, leafOf, combine, joinOf}
+use Rattle.intervals.specs.Expression.{Expression, Operands}
+use Rattle.intervals.proofs.Laws.Expression.{expression-opens, expression-deepest, expression-bounded, expression-span}
 use Rattle.expressions.specs.Expression.{partAt, first, second, indicatorOf, numberBy, number, truth, OperandsFit, Fits}
 use Rattle.expressions.proofs.Laws.Expression.{number-opens}
 

@@ -17,7 +17,7 @@ use Rattle.records.specs.Record.{kindAt, fieldA, valueB}
 use Rattle.records.specs.Kind.{within, formOf, formAt, signatureOf}
 use Rattle.records.specs.Kind.{number as numberSort, truth as truthSort}
 use Rattle.records.specs.Walk.{span}
-use Rattle.reading.specs.Interval.{combine}
+use Rattle.intervals.specs.Interval.{combine}
 use Rattle.expressions.specs.Expression.{partAt, first, second, indicatorOf, connectOf, compareOf, numberBy, truthBy, number, truth, OperandsFit, Fits, Spans}
 use Rattle.expressions.proofs.Laws.Expression.{number-opens, truth-opens, fits-opens, fits-level, fits-record, fits-small, fits-within}
 use Rattle.expressions.proofs.Laws.Span.{spans-from}

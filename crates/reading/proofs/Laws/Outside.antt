@@ -22,12 +22,12 @@ use Rattle.records.specs.Walk.{inSequence, walkOf}
 use Rattle.records.proofs.Laws.Walk.{walk-opens, walk-deepest}
 use Rattle.parsing.proofs.Laws.Through.{at-end}
 use Rattle.parsing.proofs.Laws.Outline.{Parses}
-use Rattle.reading.specs.declared.intervals.Analysis.{Analysis}
-use Rattle.reading.specs.declared.intervals.Analysis.the-variants.{Within, Out}
-use Rattle.reading.specs.Interval.{unit, leafOf, joinOf, ownOf, andInterval, byOperands, analysisOf, andExpression, analysedFrom, intervalsOf}
+use Rattle.intervals.specs.declared.Analysis.{Analysis}
+use Rattle.intervals.specs.declared.Analysis.the-variants.{Within, Out}
+use Rattle.intervals.specs.Interval.{unit, leafOf, joinOf, ownOf, andInterval, byOperands, analysisOf, andExpression, analysedFrom, intervalsOf}
 use Rattle.reading.specs.Readable.{Own, Outside}
-use Rattle.reading.proofs.Laws.Interval.{operands-most, analysis-walk, analysis-ahead}
-use Rattle.reading.proofs.Laws.Expression.{sequence-first, sequence-one}
+use Rattle.intervals.proofs.Laws.Interval.{operands-most, analysis-walk, analysis-ahead}
+use Rattle.intervals.proofs.Laws.Expression.{sequence-first, sequence-one}
 
 module _ (file : List ℕ) (place : ℕ) where
   own-out : (i : Interval) (end at : ℕ) → ownOf i end at ≡ Out place → (at ≡ place) × (inBounds i ≡ false)

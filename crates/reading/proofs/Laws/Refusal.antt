@@ -20,13 +20,13 @@ use Rattle.parsing.specs.Refusal.{Refuses}
 use Rattle.parsing.proofs.Laws.Refusal.{Refusing, walked, refused, by-test, refuses-more, walked-ends, parse-refuses}
 use Rattle.parsing.proofs.Laws.Outline.{Parses, parses}
 use Rattle.reading.specs.declared.Reading.{Reading}
-use Rattle.reading.specs.declared.intervals.Analysis.{Analysis}
+use Rattle.intervals.specs.declared.Analysis.{Analysis}
 use Rattle.records.specs.Search.{refuseFirst}
 use Rattle.reading.specs.States.{sizeOf, statesOf}
-use Rattle.reading.specs.Interval.{unit, leafOf, joinOf, ownOf, andInterval, byOperands, analysisOf, andExpression, analysedFrom, intervalsOf}
+use Rattle.intervals.specs.Interval.{unit, leafOf, joinOf, ownOf, andInterval, byOperands, analysisOf, andExpression, analysedFrom, intervalsOf}
 use Rattle.reading.specs.Edge.{diagram, ruleOf, rulesOf, doubledOf, doublesOf}
 use Rattle.reading.specs.Read.{andStage, stagesRead, parsedRead, readOf}
-use Rattle.reading.proofs.Laws.Interval.{analysis-within}
+use Rattle.intervals.proofs.Laws.Interval.{analysis-within}
 use Rattle.reading.proofs.Laws.Fits.{fits}
 
 -- ---- numbers in a row

@@ -22,10 +22,11 @@ use Rattle.records.proofs.Laws.Walk.{walk-opens}
 use Rattle.parsing.proofs.Laws.Section.{items-reach, sequence-reach}
 use Rattle.parsing.proofs.Laws.Parsed.{variables-most}
 use Rattle.parsing.proofs.Laws.Through as through
-use Rattle.reading.specs.declared.intervals.Analysis.{Analysis}
-use Rattle.reading.specs.Interval.{analysisOf, andExpression, analysedFrom, intervalsOf}
-use Rattle.reading.specs.Readable.{Expression, Start, Apart, Assignments, Transition, Claimed, Node}
-use Rattle.reading.proofs.Laws.Interval.{analysis-walk, analysis-ahead}
+use Rattle.intervals.specs.declared.Analysis.{Analysis}
+use Rattle.intervals.specs.Interval.{analysisOf, andExpression, analysedFrom, intervalsOf}
+use Rattle.intervals.specs.Expression.{Expression}
+use Rattle.reading.specs.Readable.{Start, Apart, Assignments, Transition, Claimed, Node}
+use Rattle.intervals.proofs.Laws.Interval.{analysis-walk, analysis-ahead}
 use Rattle.reading.proofs.Laws.Stage.{Passed, Stages}
 
 -- ---- the scan at a record

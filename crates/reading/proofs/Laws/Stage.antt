@@ -12,7 +12,7 @@ use Rattle.parsing.specs.Outline.{parsedOf}
 use Rattle.parsing.proofs.Laws.Outline.{Parses, parses}
 use Rattle.reading.specs.declared.Reading.{Reading}
 use Rattle.reading.specs.States.{statesOf}
-use Rattle.reading.specs.Interval.{intervalsOf}
+use Rattle.intervals.specs.Interval.{intervalsOf}
 use Rattle.reading.specs.Edge.{rulesOf, doublesOf}
 use Rattle.reading.specs.Read.{andStage, stagesRead, parsedRead, readOf}
 

@@ -30,7 +30,7 @@ use Rattle.parsing.proofs.Laws.Section.{kind-here}
 use Rattle.reading.specs.declared.Reading.{Reading}
 use Rattle.reading.specs.Edge.{diagram, transitionAt}
 use Rattle.reading.specs.Read.{readOf}
-use Rattle.reading.proofs.Laws.Expression.{expression-within}
+use Rattle.intervals.proofs.Laws.Expression.{expression-within}
 use Rattle.reading.proofs.Laws.Readable as readable
 use Rattle.expressions.specs.Expression.{holdsOf}
 use Rattle.conditions.specs.Edges.{carries}

@@ -1,11 +1,11 @@
--- `reading::intervals::combined` meets its contract, by the tests passed.
+-- `intervals::combined` meets its contract, by the tests passed.
 -- Assumes nothing.
 use borrow.Author.Tests.{eq-eqb, ne-eqb}
 use mathlib.Core.Path.{_∙_}
-use Rattle.reading.specs.Interval.{combine}
+use Rattle.intervals.specs.Interval.{combine}
 use borrow.Author.Needs.{needs}
-use Rattle.reading.proofs.intervals.combined.Statement.{statement}
-use Rattle.reading.proofs.intervals.combined.Tie as tie
+use Rattle.intervals.proofs.combined.Statement.{statement}
+use Rattle.intervals.proofs.combined.Tie as tie
 
 sum-requires : tie.Need-sum-requires
 sum-requires c κs = search needs

@@ -13,7 +13,7 @@ use Rattle.records.specs.declared.kinds.Form.the-variants.{Constant, Variable, 
 use Rattle.records.specs.declared.walk.Walked.{Walked}
 use Rattle.records.specs.Record.{kindAt, fieldA, valueB, valueC}
 use Rattle.records.specs.Kind.{none, formAt, signatureAt}
-use Rattle.reading.specs.declared.intervals.Analysis.{Analysis}
+use Rattle.intervals.specs.declared.Analysis.{Analysis}
 
 abbrev pub interval : ℤ → ℤ → Interval
 interval l h = record { low = l; high = h }

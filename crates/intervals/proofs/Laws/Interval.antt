@@ -25,9 +25,9 @@ use Rattle.records.specs.Record.{kindAt}
 use Rattle.records.specs.Kind.{formOf, signatureOf, formAt, signatureAt}
 use Rattle.records.specs.Walk.{walkOf, spans, span}
 use Rattle.records.proofs.Laws.Span.{walk-span}
-use Rattle.reading.specs.declared.intervals.Analysis.{Analysis}
-use Rattle.reading.specs.declared.intervals.Analysis.the-variants.{Within, Out}
-use Rattle.reading.specs.Interval.{unit, leafOf, joinOf, ownOf, andInterval, byOperands, analysisOf}
+use Rattle.intervals.specs.declared.Analysis.{Analysis}
+use Rattle.intervals.specs.declared.Analysis.the-variants.{Within, Out}
+use Rattle.intervals.specs.Interval.{unit, leafOf, joinOf, ownOf, andInterval, byOperands, analysisOf}
 
 -- where an interval comes from: the record itself, or its operands, one level further in
 pub data Analysed (file : List ℕ) (levels at end : ℕ) : Interval → Type 0 where

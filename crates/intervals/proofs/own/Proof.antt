@@ -1,10 +1,10 @@
--- `reading::intervals::own` meets its contract, by the test passed.
+-- `intervals::own` meets its contract, by the test passed.
 -- Assumes nothing.
 use mathlib.Core.Path.{sym, _∙_}
-use Rattle.reading.specs.Interval.{ownOf}
+use Rattle.intervals.specs.Interval.{ownOf}
 use borrow.Author.Needs.{needs}
-use Rattle.reading.proofs.intervals.own.Statement.{statement}
-use Rattle.reading.proofs.intervals.own.Tie as tie
+use Rattle.intervals.proofs.own.Statement.{statement}
+use Rattle.intervals.proofs.own.Tie as tie
 
 in-bounds-requires : tie.Need-in-bounds-requires
 in-bounds-requires c κs = search needs

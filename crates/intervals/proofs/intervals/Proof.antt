@@ -1,13 +1,13 @@
--- `reading::intervals::intervals` meets its contract: the expressions left decide for all.
+-- `intervals::intervals` meets its contract: the expressions left decide for all.
 -- Assumes nothing.
 use mathlib.Core.Path.{sym, _∙_}
 use Prim.Native.Nat.{_-_}
 use native.Mathlib.Omega.{arith}
 use borrow.Author.Needs.{needs}
-use Rattle.reading.proofs.Laws.Interval.{analysis-ahead}
-use Rattle.reading.proofs.Steps.Interval.{Scan, scan-begins, scan-over, scan-skip, scan-out, scan-next}
-use Rattle.reading.proofs.intervals.intervals.Statement.{statement}
-use Rattle.reading.proofs.intervals.intervals.Tie as tie
+use Rattle.intervals.proofs.Laws.Interval.{analysis-ahead}
+use Rattle.intervals.proofs.Steps.Interval.{Scan, scan-begins, scan-over, scan-skip, scan-out, scan-next}
+use Rattle.intervals.proofs.intervals.Statement.{statement}
+use Rattle.intervals.proofs.intervals.Tie as tie
 
 abbrev Inv-loop : tie.InvT-loop
 Inv-loop file records at₀ at = Scan file at

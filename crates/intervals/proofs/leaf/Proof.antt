@@ -1,15 +1,15 @@
--- `reading::intervals::leaf` meets its contract, form by form.
+-- `intervals::leaf` meets its contract, form by form.
 -- Assumes nothing.
 use native.Mathlib.Omega.{arith}
 use mathlib.Core.Path.{sym}
-use Rattle.reading.proofs.Steps.Interval.{leaf-other}
+use Rattle.intervals.proofs.Steps.Interval.{leaf-other}
 use Prim.Native.Nat.{_+_, _*_}
-use Rattle.reading.specs.Interval.{leafOf}
+use Rattle.intervals.specs.Interval.{leafOf}
 use mir.Syntax.{w64}
 use Rattle.integers.proofs.Laws.Parts.{back}
 use borrow.Author.Needs.{needs}
-use Rattle.reading.proofs.intervals.leaf.Statement.{statement}
-use Rattle.reading.proofs.intervals.leaf.Tie as tie
+use Rattle.intervals.proofs.leaf.Statement.{statement}
+use Rattle.intervals.proofs.leaf.Tie as tie
 
 enum-told : tie.Need-enum-told
 enum-told c = search needs

@@ -16,8 +16,8 @@ use Rattle.records.specs.declared.kinds.Form.the-variants.{Constant, Variable, 
 use Rattle.records.specs.declared.kinds.Signature.{Signature}
 use Rattle.records.specs.declared.walk.Walked.{Walked}
 use Rattle.records.specs.Kind.{none, formAt, signatureAt}
-use Rattle.reading.specs.declared.intervals.Analysis.{Analysis}
-use Rattle.reading.specs.Interval.{unit, leafOf, joinOf, ownOf, byOperands, analysisOf, andExpression, analysedFrom, intervalsOf}
+use Rattle.intervals.specs.declared.Analysis.{Analysis}
+use Rattle.intervals.specs.Interval.{unit, leafOf, joinOf, ownOf, byOperands, analysisOf, andExpression, analysedFrom, intervalsOf}
 
 abbrev pub others : List ℕ
 others = 2 ∷ 3 ∷ 4 ∷ 5 ∷ 6 ∷ 7 ∷ 8 ∷ []

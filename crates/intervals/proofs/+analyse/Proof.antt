@@ -1,25 +1,25 @@
--- `reading::intervals::analyse` meets its contract: the analysis of each operand says what that of the record does. The measure is the levels left.
+-- `intervals::analyse` meets its contract: the analysis of each operand says what that of the record does. The measure is the levels left.
 -- Assumes nothing.
 use native.Mathlib.Omega.{arith}
 use mathlib.Core.Path.{sym, ap, _∙_}
 use Rattle.records.specs.Kind.{signatureOf}
 use Prim.Native.Nat.{ℕ, _<_}
 use borrow.Author.Needs.{needs}
-use Rattle.reading.proofs.Steps.Interval.{analyse-deep, analyse-short, analyse-step, by-none, by-out, by-one, by-two-out, by-two, own-same, own-join}
-use Rattle.reading.specs.Interval.{leafOf}
-use Rattle.reading.proofs.Laws.Interval.{analysis-bounded}
+use Rattle.intervals.proofs.Steps.Interval.{analyse-deep, analyse-short, analyse-step, by-none, by-out, by-one, by-two-out, by-two, own-same, own-join}
+use Rattle.intervals.specs.Interval.{leafOf}
+use Rattle.intervals.proofs.Laws.Interval.{analysis-bounded}
 use borrow.Fn.Kinds.{In}
 use borrow.Fn.PlainCycle.{Measures, is, falls, and}
-use Rattle.reading.proofs.intervals.analyse.Reads as analyse
-use Rattle.reading.proofs.intervals.analyse.Kinds as analyse-kinds
-use Rattle.reading.proofs.intervals.+analyse.Lts-analyse as analyse-lts
-use Rattle.reading.proofs.intervals.join.Reads as join-reads
-use Rattle.reading.proofs.intervals.leaf.Reads as leaf-reads
-use Rattle.reading.proofs.intervals.own.Reads as own-reads
+use Rattle.intervals.proofs.analyse.Reads as analyse
+use Rattle.intervals.proofs.analyse.Kinds as analyse-kinds
+use Rattle.intervals.proofs.+analyse.Lts-analyse as analyse-lts
+use Rattle.intervals.proofs.join.Reads as join-reads
+use Rattle.intervals.proofs.leaf.Reads as leaf-reads
+use Rattle.intervals.proofs.own.Reads as own-reads
 use Rattle.records.proofs.kinds.form_of.Reads as form-of-reads
 use Rattle.records.proofs.kinds.signature_of.Reads as signature-of-reads
-use Rattle.reading.proofs.intervals.+analyse.{statement}
-use Rattle.reading.proofs.intervals.+analyse.Tie.{close}
+use Rattle.intervals.proofs.+analyse.{statement}
+use Rattle.intervals.proofs.+analyse.Tie.{close}
 
 abbrev μ-analyse : Measures 1 analyse-kinds.ps ℕ
 μ-analyse κs a = a .1 .0

@@ -11,7 +11,7 @@ ghost use mathlib.Core.Path.{_≡_};
 ghost use Prim.Native.Nat.{_+_, _*_, _≤_};
 ghost use lib.ListN.{length};
 ghost use Rattle.integers.specs.Interval.{Bounded, overEnds};
-ghost use Rattle.reading.specs.Interval.{leafOf, combine, joinOf, ownOf, analysisOf, intervalsOf};
+ghost use Rattle.intervals.specs.Interval.{leafOf, combine, joinOf, ownOf, analysisOf, intervalsOf};
 
 // The interval of an expression and the record behind it, or the record whose own interval goes out of bounds.
 pub enum Analysis {
@@ -112,7 +112,7 @@ fn analyse(file: &[u8], levels: usize, at: usize) -> Analysis
 }
 
 // Analyses every expression of the file, in file order: refusal 8 at the first record whose own interval goes out of bounds.
-pub(crate) fn intervals(file: &[u8]) -> Walked
+pub fn intervals(file: &[u8]) -> Walked
     ensures { λ r. ⌜ r ≡ intervalsOf (now (file .entry)) ⌝ }
 {
     let records = file.len() / 8;

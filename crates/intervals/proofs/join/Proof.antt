@@ -1,11 +1,11 @@
--- `reading::intervals::join` meets its contract, form by form.
+-- `intervals::join` meets its contract, form by form.
 -- Assumes nothing.
 use mathlib.Core.Path.{sym}
-use Rattle.reading.specs.Interval.{joinOf}
-use Rattle.reading.proofs.Steps.Interval.{join-other}
+use Rattle.intervals.specs.Interval.{joinOf}
+use Rattle.intervals.proofs.Steps.Interval.{join-other}
 use borrow.Author.Needs.{needs}
-use Rattle.reading.proofs.intervals.join.Statement.{statement}
-use Rattle.reading.proofs.intervals.join.Tie as tie
+use Rattle.intervals.proofs.join.Statement.{statement}
+use Rattle.intervals.proofs.join.Tie as tie
 
 enum-told : tie.Need-enum-told
 enum-told c = search needs

@@ -19,8 +19,8 @@ use Rattle.records.specs.Walk.{andThen, inSequence, walkOf, span}
 use Rattle.records.proofs.Laws.Kind.{variable-named}
 use Rattle.records.proofs.Laws.Walk.{walk-opens, walk-deepest, walk-bound}
 use Rattle.records.proofs.Laws.Span.{walk-span}
-use Rattle.reading.specs.Readable.{Expression, Operands, Opened}
-use Rattle.reading.proofs.Laws.Interval.{Analysed, analysis-opens, analysis-bounded, analysis-walk}
+use Rattle.intervals.specs.Expression.{Expression, Operands, Opened}
+use Rattle.intervals.proofs.Laws.Interval.{Analysed, analysis-opens, analysis-bounded, analysis-walk}
 
 -- ---- parts in sequence, from the first on
 module _ (part : ℕ → Walked) (end : ℕ) where

@@ -12,7 +12,7 @@ use Rattle.integers.specs.Tests
 use Rattle.records.specs.Record
 use Rattle.records.specs.Kind
 use Rattle.records.specs.Walk
-use Rattle.parsing.specs.Section
+use Rattle.sections.specs.Section
 use Rattle.records.specs.Place
 use Rattle.parsing.specs.Outline
 use Rattle.records.specs.Search

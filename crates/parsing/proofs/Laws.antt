@@ -1,5 +1,4 @@
 -- Laws of the definitions, for the proofs here and in the crates above.
-pub mod Section
 pub mod Outline
 pub mod Refusal
 pub mod Parsed

@@ -1,4 +1,3 @@
 -- What a file is, in the order in which it is read.
-pub mod Section
 pub mod Outline
 pub mod Refusal

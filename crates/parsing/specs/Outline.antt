@@ -5,11 +5,11 @@ use mathlib.Core.List.{List}
 use lib.ListN.{length}
 use lib.Dec.{leb, eqb}
 use Rattle.records.specs.declared.walk.Walked.{Walked}
-use Rattle.parsing.specs.declared.sections.Section.{Section}
+use Rattle.sections.specs.declared.Section.{Section}
 use Rattle.parsing.specs.declared.outline.Parsed.{Parsed}
 use Rattle.records.specs.Record.{kindIs}
 use Rattle.records.specs.Walk.{inSequence, truthOf}
-use Rattle.parsing.specs.Section.{noFields, propertyFields, variablesOf, transitionsOf, expressionsOf, phasesOr, nodesOf, edgesOf}
+use Rattle.sections.specs.Section.{noFields, propertyFields, variablesOf, transitionsOf, expressionsOf, phasesOr, nodesOf, edgesOf}
 
 -- the file goes on behind a part or a section that ends, or its refusal stands
 abbrev pub andParse : Walked → (ℕ → Parsed) → Parsed

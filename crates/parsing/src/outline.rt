@@ -1,18 +1,18 @@
 // Parses a whole file, section by section: refusals 2 to 6, or its outline.
-use crate::sections::Section;
-use crate::sections::edges;
-use crate::sections::expressions;
-use crate::sections::nodes;
-use crate::sections::phases_or;
-use crate::sections::property_fields;
-use crate::sections::transitions;
-use crate::sections::variables;
 use records::kind_is;
 use records::kinds::TRUTH;
 use records::walk::Walked;
 use records::walk::truths;
 use records::walk::walk;
 use records::zeros;
+use sections::Section;
+use sections::edges;
+use sections::expressions;
+use sections::nodes;
+use sections::phases_or;
+use sections::property_fields;
+use sections::transitions;
+use sections::variables;
 ghost use mathlib.Core.Path.{_≡_};
 ghost use Prim.Native.Nat.{_+_, _*_, _≤_};
 ghost use lib.ListN.{length};

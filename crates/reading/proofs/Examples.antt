@@ -11,7 +11,7 @@ use Rattle.integers.specs.Radix
 use Rattle.records.specs.Record
 use Rattle.records.specs.Kind
 use Rattle.records.specs.Walk
-use Rattle.parsing.specs.Section
+use Rattle.sections.specs.Section
 use Rattle.parsing.specs.Outline
 use Rattle.reading.specs.declared.Reading.{Reading}
 use Rattle.records.specs.Search

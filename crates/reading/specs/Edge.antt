@@ -9,7 +9,7 @@ use Rattle.records.specs.declared.walk.Walked.{Walked}
 use Rattle.parsing.specs.declared.outline.Outline.{Outline}
 use Rattle.records.specs.Walk.{inSequence}
 use Rattle.records.specs.Record.{fieldA, fieldB, fieldC, fieldD}
-use Rattle.parsing.specs.Section.{transitionOf}
+use Rattle.sections.specs.Section.{transitionOf}
 use Rattle.records.specs.Place.{placeOf, placesOf}
 use Rattle.reading.specs.States.{Ranges}
 use Rattle.records.specs.Search.{any, refuseFirst}

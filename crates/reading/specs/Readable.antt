@@ -10,7 +10,7 @@ use Rattle.parsing.specs.declared.outline.Outline.{Outline}
 use Rattle.records.specs.Record.{kindAt, fieldA, fieldB, fieldC, fieldD, kindIs}
 use Rattle.records.specs.Kind.{number, truth, formAt, signatureAt}
 use Rattle.records.specs.Walk.{inSequence, truthOf}
-use Rattle.parsing.specs.Section.{transitionOf, nodeOf}
+use Rattle.sections.specs.Section.{transitionOf, nodeOf}
 use Rattle.intervals.specs.declared.Analysis.{Analysis}
 use Rattle.intervals.specs.Interval.{leafOf, joinOf, analysisOf}
 use Rattle.reading.specs.Edge.{justOf}

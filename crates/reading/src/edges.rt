@@ -1,13 +1,13 @@
 // The edge rules: refusals 9 and 10.
 use parsing::outline::Outline;
-use parsing::sections::transition_places;
 use records::byte_at;
 use records::walk::Walked;
 use records::word_at;
+use sections::transition_places;
 ghost use mathlib.Core.Path.{_≡_};
 ghost use Prim.Native.Nat.{_+_, _*_, _≤_, _<_};
 ghost use lib.ListN.{length};
-ghost use Rattle.parsing.specs.Section.{transitionOf};
+ghost use Rattle.sections.specs.Section.{transitionOf};
 ghost use Rattle.records.specs.Place.{placesOf};
 ghost use Rattle.records.specs.Search.{any};
 ghost use Rattle.reading.specs.Edge.{descending, conflictOf, justOf, chainRuleOf, ruleOf, rulesOf, doubleFrom, doubledOf, doublesOf, Fits, EdgeFits};

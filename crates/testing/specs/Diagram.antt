@@ -6,7 +6,7 @@ use lib.Dec.{eqb}
 use lib.IntN.{ℤ}
 use Rattle.parsing.specs.declared.outline.Outline.{Outline}
 use Rattle.records.specs.Walk.{inSequence, truthOf}
-use Rattle.parsing.specs.Section.{nodeOf}
+use Rattle.sections.specs.Section.{nodeOf}
 use Rattle.records.specs.Place.{placeOf}
 use Rattle.reading.specs.Edge.{diagram}
 use Rattle.expressions.specs.Expression.{holdsOf}

@@ -11,7 +11,7 @@ use Rattle.parsing.specs.declared.outline.Outline.{Outline}
 use Rattle.records.specs.Record.{fieldC}
 use Rattle.records.specs.Kind.{truth as truthSort}
 use Rattle.records.specs.Search.{any}
-use Rattle.parsing.specs.Section.{nodeOf, transitionOf}
+use Rattle.sections.specs.Section.{nodeOf, transitionOf}
 use Rattle.records.specs.Place.{tabulate, placesOf}
 use Rattle.reading.specs.Edge.{transitionAt}
 use Rattle.expressions.specs.Expression.{partAt, holdsOf, Fits}

@@ -20,8 +20,8 @@ use Rattle.integers.specs.Interval.{In}
 use Rattle.parsing.specs.declared.outline.Outline.{Outline}
 use Rattle.records.specs.Record.{fieldA, valueB, valueC}
 use Rattle.records.specs.Kind.{number as numberSort, truth as truthSort}
-use Rattle.parsing.specs.Section.{expressionsOf}
-use Rattle.parsing.proofs.Laws.Section.{kind-here}
+use Rattle.sections.specs.Section.{expressionsOf}
+use Rattle.sections.proofs.Laws.Section.{kind-here}
 use Rattle.reading.specs.declared.Reading.{Reading}
 use Rattle.intervals.specs.Interval.{interval}
 use Rattle.reading.specs.States.{productOf}

@@ -12,7 +12,7 @@ use lib.ListN.{length}
 use Rattle.parsing.specs.declared.outline.Outline.{Outline}
 use Rattle.records.specs.declared.walk.Walked.{Walked}
 use Rattle.records.specs.Walk.{inSequence}
-use Rattle.parsing.proofs.Laws.Section.{kind-here}
+use Rattle.sections.proofs.Laws.Section.{kind-here}
 use Rattle.reading.specs.declared.Reading.{Reading}
 use Rattle.reading.specs.Read.{readOf}
 use Rattle.reading.proofs.Laws.Readable.{small, variables-within, transitions-within, nodes-within, node, fits}

@@ -11,14 +11,14 @@ use lib.ListN.{length}
 use lib.Dec.{leb, eqb}
 use Rattle.records.specs.declared.walk.Walked.{Walked}
 use Rattle.records.specs.declared.walk.Walked.the-variants.{End}
-use Rattle.parsing.specs.declared.sections.Section.{Section}
-use Rattle.parsing.specs.declared.sections.Section.the-variants.{Items}
+use Rattle.sections.specs.declared.Section.{Section}
+use Rattle.sections.specs.declared.Section.the-variants.{Items}
 use Rattle.parsing.specs.declared.outline.Outline.{Outline}
 use Rattle.parsing.specs.declared.outline.Parsed.{Parsed}
 use Rattle.records.specs.Walk.{inSequence, truthOf}
 use Rattle.records.specs.Record.{kindIs}
-use Rattle.parsing.specs.Section.{noFields, variableFields, propertyFields, variablesOf, transitionsOf, expressionsOf, phasesOr, nodesOf, edgesOf}
-use Rattle.parsing.proofs.Laws.Section.{items-single}
+use Rattle.sections.specs.Section.{noFields, variableFields, propertyFields, variablesOf, transitionsOf, expressionsOf, phasesOr, nodesOf, edgesOf}
+use Rattle.sections.proofs.Laws.Section.{items-single}
 use Rattle.parsing.specs.Outline.{andParse, andSection, edgesParsed, nodesParsed, propertyParsed, transitionsParsed, startParsed, parsedOf}
 
 pub record Parses (file : List ℕ) (o : Outline) : Type 0 where

@@ -19,9 +19,9 @@ use Rattle.records.specs.declared.walk.Walked.{Walked}
 use Rattle.parsing.specs.declared.outline.Outline.{Outline}
 use Rattle.records.specs.Record.{fieldA, fieldB, fieldC, fieldD, valueB, valueC, zerosOf, sameBytes}
 use Rattle.records.specs.Walk.{truthOf}
-use Rattle.parsing.specs.Section.{noFields, variableFields, transitionFields, propertyFields, edgeFields, variablesOf, transitionOf, transitionsOf, phasesOr, nodesOf, repeatedOf, edgesOf}
+use Rattle.sections.specs.Section.{noFields, variableFields, transitionFields, propertyFields, edgeFields, variablesOf, transitionOf, transitionsOf, phasesOr, nodesOf, repeatedOf, edgesOf}
 use Rattle.records.proofs.Laws.Search.{any-false}
-use Rattle.parsing.proofs.Laws.Section.{items-most, items-single, single-nth}
+use Rattle.sections.proofs.Laws.Section.{items-most, items-single, single-nth}
 use Rattle.parsing.proofs.Laws.Outline.{Parses}
 
 -- ---- the number of nodes that a property allows

@@ -10,16 +10,16 @@ use borrow.Author.Tests.{ltb-true, leb-true}
 use lib.ListN.{length, getD, set, replicate}
 use lib.Dec.{ltb, leb, eqb}
 use Rattle.records.specs.declared.walk.Walked.{Walked}
-use Rattle.parsing.specs.declared.sections.Section.{Section}
+use Rattle.sections.specs.declared.Section.{Section}
 use Rattle.parsing.specs.declared.outline.Parsed.{Parsed}
 use Rattle.records.specs.Record.{fieldA, kindIs}
 use Rattle.records.specs.Kind.{number, truth, signatureAt}
 use Rattle.records.specs.Walk.{expressionFields, andThen, inSequence, recordThen, walkOf, truthOf}
-use Rattle.parsing.specs.Section.{noFields, variableFields, transitionFields, assignmentFields, propertyFields, edgeFields, andItems, itemsOf, variablesOf, assignmentsOf, transitionOf, transitionsOf, expressionsOf, phasesOr, nodeOf, nodesOf, repeatedOf, edgesOf}
+use Rattle.sections.specs.Section.{noFields, variableFields, transitionFields, assignmentFields, propertyFields, edgeFields, andItems, itemsOf, variablesOf, assignmentsOf, transitionOf, transitionsOf, expressionsOf, phasesOr, nodeOf, nodesOf, repeatedOf, edgesOf}
 use Rattle.parsing.specs.Outline.{andParse, andSection, edgesParsed, nodesParsed, propertyParsed, transitionsParsed, startParsed, parsedOf}
 use Rattle.parsing.specs.Refusal.{Refuses}
 use Rattle.records.proofs.Laws.Walk.{walk-bound}
-use Rattle.parsing.proofs.Laws.Section.{kind-here, transition-bound, items-through, sequence-through}
+use Rattle.sections.proofs.Laws.Section.{kind-here, transition-bound, items-through, sequence-through}
 
 -- ---- answers of any type
 -- the refusals of a type of answers differ in number or place

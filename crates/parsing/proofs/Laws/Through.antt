@@ -16,8 +16,8 @@ use Rattle.parsing.specs.declared.outline.Outline.{Outline}
 use Rattle.records.specs.Record.{fieldA, kindIs}
 use Rattle.records.specs.Kind.{none, number, truth, within, formOf, signatureOf}
 use Rattle.records.specs.Walk.{andThen, walkOf, truthOf}
-use Rattle.parsing.specs.Section.{noFields, variableFields, transitionFields, assignmentFields, edgeFields, variablesOf, assignmentsOf, transitionOf, transitionsOf, expressionsOf, phasesOr, nodeOf, nodesOf, repeatedOf, edgesOf}
-use Rattle.parsing.proofs.Laws.Section.{items-through, sequence-through}
+use Rattle.sections.specs.Section.{noFields, variableFields, transitionFields, assignmentFields, edgeFields, variablesOf, assignmentsOf, transitionOf, transitionsOf, expressionsOf, phasesOr, nodeOf, nodesOf, repeatedOf, edgesOf}
+use Rattle.sections.proofs.Laws.Section.{items-through, sequence-through}
 use Rattle.parsing.proofs.Laws.Outline.{Parses}
 
 module _ (file : List ℕ) (vars : ℕ) (P : ℕ → Type 0)

@@ -6,7 +6,7 @@ use native.Mathlib.Omega.{arith}
 use Rattle.parsing.specs.declared.outline.Outline.{Outline}
 use Rattle.records.specs.Kind.{truth}
 use Rattle.records.proofs.Laws.Walk.{walk-bound}
-use Rattle.parsing.proofs.Laws.Section.{kind-here}
+use Rattle.sections.proofs.Laws.Section.{kind-here}
 use Rattle.parsing.proofs.Laws.Outline.{Parses}
 use Rattle.parsing.proofs.Laws.Parsed.{variables-most, variable-range, transitions-most, nodes-most, edges-end, edge-transition}
 use Rattle.reading.specs.States.{Ranges}

@@ -23,10 +23,10 @@ use Rattle.records.specs.declared.walk.Walked.{Walked}
 use Rattle.parsing.specs.declared.outline.Outline.{Outline}
 use Rattle.records.specs.Record.{fieldA, fieldB, fieldC, fieldD, valueB, valueC, zerosOf}
 use Rattle.records.specs.Walk.{inSequence}
-use Rattle.parsing.specs.Section.{noFields, propertyFields, expressionsOf, phasesOr, transitionOf, nodeOf, nodesOf}
+use Rattle.sections.specs.Section.{noFields, propertyFields, expressionsOf, phasesOr, transitionOf, nodeOf, nodesOf}
 use Rattle.records.specs.Place.{placeOf, placesOf}
 use Rattle.records.proofs.Laws.Place.{places-nth}
-use Rattle.parsing.proofs.Laws.Section.{items-most}
+use Rattle.sections.proofs.Laws.Section.{items-most}
 use Rattle.parsing.proofs.Laws.Outline.{Parses}
 use Rattle.parsing.proofs.Laws.Parsed as parsed
 use Rattle.reading.specs.declared.Reading.{Reading}

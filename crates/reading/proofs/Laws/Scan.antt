@@ -17,9 +17,9 @@ use Rattle.parsing.specs.declared.outline.Outline.{Outline}
 use Rattle.records.specs.Record.{kindAt, fieldA, kindIs, zerosOf}
 use Rattle.records.specs.Kind.{none, number, truth, within, formOf, signatureOf, signatureAt}
 use Rattle.records.specs.Walk.{andThen, walkOf, truthOf}
-use Rattle.parsing.specs.Section.{noFields, transitionFields, assignmentFields, assignmentsOf, transitionOf, transitionsOf, expressionsOf, phasesOr, nodeOf, nodesOf}
+use Rattle.sections.specs.Section.{noFields, transitionFields, assignmentFields, assignmentsOf, transitionOf, transitionsOf, expressionsOf, phasesOr, nodeOf, nodesOf}
 use Rattle.records.proofs.Laws.Walk.{walk-opens}
-use Rattle.parsing.proofs.Laws.Section.{items-reach, sequence-reach}
+use Rattle.sections.proofs.Laws.Section.{items-reach, sequence-reach}
 use Rattle.parsing.proofs.Laws.Parsed.{variables-most}
 use Rattle.parsing.proofs.Laws.Through as through
 use Rattle.intervals.specs.declared.Analysis.{Analysis}

@@ -12,9 +12,9 @@ use Rattle.records.specs.declared.walk.Walked.{Walked}
 use Rattle.parsing.specs.declared.outline.Outline.{Outline}
 use Rattle.records.specs.Record.{fieldA, fieldB, fieldC, fieldD}
 use Rattle.records.specs.Walk.{inSequence}
-use Rattle.parsing.specs.Section.{transitionOf}
+use Rattle.sections.specs.Section.{transitionOf}
 use Rattle.records.specs.Place.{placeOf, placesOf}
-use Rattle.parsing.proofs.Laws.Section.{transitions-bound}
+use Rattle.sections.proofs.Laws.Section.{transitions-bound}
 use Rattle.records.proofs.Laws.Place.{places-nth}
 use Rattle.records.specs.Search.{any, refuseFirst}
 use Rattle.reading.specs.Edge.{transitionAt, single, diagram, descending, justOf, conflictOf, chainRuleOf, ruleOf, doubledOf, doublesOf, Fits, EdgeFits}

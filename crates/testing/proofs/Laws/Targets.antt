@@ -21,12 +21,12 @@ use lib.IntN.{ℤ}
 use Rattle.parsing.specs.declared.outline.Outline.{Outline}
 use Rattle.records.specs.Record.{fieldB, fieldC}
 use Rattle.records.specs.Kind.{truth as truthSort}
-use Rattle.parsing.specs.Section.{nodeOf, transitionOf, expressionsOf}
+use Rattle.sections.specs.Section.{nodeOf, transitionOf, expressionsOf}
 use Rattle.records.specs.Place.{placeOf}
 use Rattle.records.specs.Search.{any}
 use Rattle.records.proofs.Laws.Place.{places-nth}
 use Rattle.records.proofs.Laws.Search.{any-some}
-use Rattle.parsing.proofs.Laws.Section.{kind-here}
+use Rattle.sections.proofs.Laws.Section.{kind-here}
 use Rattle.reading.specs.declared.Reading.{Reading}
 use Rattle.reading.specs.Edge.{diagram, transitionAt}
 use Rattle.reading.specs.Read.{readOf}

@@ -13,7 +13,7 @@ use lib.Seq.{take-append-seam}
 use lib.Dec.{eqb}
 use lib.IntN.{ℤ}
 use Rattle.parsing.specs.declared.outline.Outline.{Outline}
-use Rattle.parsing.specs.Section.{expressionsOf}
+use Rattle.sections.specs.Section.{expressionsOf}
 use Rattle.reading.specs.declared.Reading.{Reading}
 use Rattle.reading.specs.Edge.{diagram, transitionAt}
 use Rattle.reading.specs.Read.{readOf}

@@ -2,9 +2,9 @@
 -- Assumes nothing.
 use borrow.Author.Tests.{eq-eqb, ne-eqb, le-leb, lt-leb}
 use mathlib.Core.Path.{sym, _∙_}
-use Rattle.parsing.specs.Section.{variablesOf}
+use Rattle.sections.specs.Section.{variablesOf}
 use Rattle.parsing.specs.Outline.{parsedOf}
-use Rattle.parsing.proofs.Laws.Section.{items-most}
+use Rattle.sections.proofs.Laws.Section.{items-most}
 use borrow.Author.Needs.{needs}
 use Rattle.parsing.proofs.outline.parse.Statement.{statement}
 use Rattle.parsing.proofs.outline.parse.Tie as tie

@@ -4,7 +4,7 @@ use native.Mathlib.Omega.{arith}
 use borrow.Author.Tests.{not-true, not-false}
 use mathlib.Core.Path.{sym, _∙_}
 use Rattle.parsing.specs.Outline.{propertyParsed}
-use Rattle.parsing.proofs.Laws.Section.{kind-here}
+use Rattle.sections.proofs.Laws.Section.{kind-here}
 use borrow.Author.Needs.{needs}
 use Rattle.parsing.proofs.outline.parse_property.Statement.{statement}
 use Rattle.parsing.proofs.outline.parse_property.Tie as tie

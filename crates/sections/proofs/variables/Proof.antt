@@ -1,0 +1,66 @@
+-- `sections::variables` meets its contract: what the items left are says what the whole section is.
+-- Assumes nothing.
+use native.Mathlib.Omega.{arith}
+use borrow.Author.Tests.{not-true, not-false}
+use mathlib.Core.Path.{refl, sym, _∙_, _≡_}
+use Prim.Native.Nat.{_+_}
+use Rattle.sections.specs.Section.{variableFields, itemsOf, variablesOf}
+use Rattle.records.specs.declared.walk.Walked.{Walked}
+use Rattle.sections.proofs.Laws.Section.{kind-here}
+use Rattle.sections.proofs.Steps.Section.{items-stop, items-field, items-over, items-ends}
+use Rattle.sections.proofs.variables.Statement.{statement}
+use Rattle.sections.proofs.variables.Tie as tie
+
+abbrev Inv-loop : tie.InvT-loop
+Inv-loop file left₀ at₀ left at = variablesOf file ≡ itemsOf file 0x01 (variableFields file) (λ i. Walked.End (i + 1)) left at at
+
+abbrev μ-loop : tie.MeasureT-loop
+μ-loop file left₀ at₀ left at = left
+
+loop-holds : tie.Need-loop-holds Inv-loop μ-loop
+unfolding variablesOf
+loop-holds c = refl
+
+kind-is-requires : tie.Need-kind-is-requires Inv-loop μ-loop
+kind-is-requires c κs = tt
+
+variable-fields-requires : tie.Need-variable-fields-requires Inv-loop μ-loop
+variable-fields-requires c κs = omega (arith, kind-here _ _ _ (sym (c .before .kind-is .ensures) ∙ c .if1 .taken))
+
+returns : tie.Need-returns Inv-loop μ-loop
+returns c = sym (c .before .before .before .before .loop .inv ∙ items-field _ _ _ _ _ _ _ (sym (c .before .before .before .kind-is .ensures) ∙ c .before .before .if1 .taken) (sym (c .before .variable-fields .ensures) ∙ not-true _ (c .if2 .taken)))
+
+returns-2 : tie.Need-returns-2 Inv-loop μ-loop
+returns-2 c = sym (c .before .before .before .before .before .loop .inv ∙ items-over _ _ _ _ _ _ (sym (c .before .before .before .before .kind-is .ensures) ∙ c .before .before .before .if1 .taken) (sym (c .before .before .variable-fields .ensures) ∙ not-false _ (c .before .if2 .left)) _ (c .if3 .taken))
+
+add-at : tie.Need-add-at Inv-loop μ-loop
+add-at c = omega (arith, kind-here _ _ _ (sym (c .before .before .before .before .kind-is .ensures) ∙ c .before .before .before .if1 .taken))
+
+sub-left : tie.Need-sub-left Inv-loop μ-loop
+sub-left c = omega arith
+
+loop-less : tie.Need-loop-less Inv-loop μ-loop
+loop-less c = omega arith
+
+loop-again : tie.Need-loop-again Inv-loop μ-loop
+loop-again c = c .before .before .before .before .before .loop .inv ∙ items-ends _ _ _ _ _ _ (sym (c .before .before .before .before .kind-is .ensures) ∙ c .before .before .before .if1 .taken) (sym (c .before .before .variable-fields .ensures) ∙ not-false _ (c .before .if2 .left)) _ _ (c .if3 .left) refl
+
+returns-3 : tie.Need-returns-3 Inv-loop μ-loop
+returns-3 c = sym (c .before .before .loop .inv ∙ items-stop _ _ _ _ _ _ _ (sym (c .before .kind-is .ensures) ∙ c .if1 .left))
+
+pub variables-spec : {M : Type 1} → statement M
+variables-spec =
+    tie.close
+    (tie.spec
+    Inv-loop
+    μ-loop
+    loop-holds
+    kind-is-requires
+    variable-fields-requires
+    returns
+    returns-2
+    add-at
+    sub-left
+    loop-less
+    loop-again
+    returns-3)

@@ -13,7 +13,7 @@ use Rattle.reading.specs.Read.{readOf}
 use Rattle.reading.proofs.Files.{B, D, H}
 use Rattle.testing.specs.Diagram.{startHolds, pHolds, qHolds}
 use Rattle.testing.specs.Holding.{guardHolds, valuesFit, nextState}
-use Rattle.judging.specs.Verdict.{statesOf, stateAt, checkOf}
+use Rattle.verdicts.specs.Verdict.{statesOf, stateAt, checkOf}
 
 -- the state where v is n
 abbrev pub v : ℕ → List ℤ

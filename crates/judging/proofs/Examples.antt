@@ -34,13 +34,13 @@ use Rattle.conditions.specs.Condition
 use Rattle.conditions.specs.Condition.{conditionsOf}
 use Rattle.runs.specs.Truth
 use Rattle.testing.specs.Holding
-use Rattle.judging.specs.Verdict
-use Rattle.judging.specs.Verdict.{checkOf, singleOf}
-use Rattle.judging.specs.Report
-use Rattle.judging.specs.Report.{reportOf}
+use Rattle.verdicts.specs.Verdict
+use Rattle.verdicts.specs.Verdict.{checkOf, singleOf}
+use Rattle.report.specs.Report
+use Rattle.report.specs.Report.{reportOf}
 use Rattle.conditions.specs.declared.Condition.{Condition}
 use Rattle.conditions.specs.declared.Condition.the-variants.{Start, Entry, Cover, Range, Step, Enabling}
-use Rattle.judging.specs.declared.verdicts.Single.{Single}
+use Rattle.verdicts.specs.declared.Single.{Single}
 use Rattle.judging.proofs.Counter.{Computed}
 
 -- ---- reports

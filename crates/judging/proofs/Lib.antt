@@ -1,5 +1,4 @@
 pub mod Laws
-mod Steps
 mod Counter
 mod Examples
 mod Witness

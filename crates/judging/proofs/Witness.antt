@@ -17,10 +17,10 @@ use Rattle.parsing.specs.declared.outline.Outline.{Outline}
 use Rattle.states.specs.State.{State}
 use Rattle.evaluating.proofs.Laws.Readable as readable
 use Rattle.testing.specs.Diagram.{startHolds, pHolds, qHolds}
-use Rattle.judging.specs.Verdict.{statesOf, stateAt, checkOf}
+use Rattle.verdicts.specs.Verdict.{statesOf, stateAt, checkOf}
 use Rattle.runs.specs.Run.{Run, finite, endless, Position, at, Step, IsRun, DisabledOrTaken, Just, KJust}
 use Rattle.runs.specs.Claim.{Waiting}
-use Rattle.judging.specs.System.{systemOf}
+use Rattle.soundness.specs.System.{systemOf}
 use Rattle.runs.proofs.Laws.Truth.{so-true}
 use Rattle.judging.proofs.Counter.{v, Counter, b, oB, d, oD, h, oH}
 use Rattle.judging.proofs.Examples.{computed}

@@ -1,5 +1,1 @@
--- The verdict on a file and its report; its system, and what an accepted file claims of the runs.
-pub mod Verdict
-pub mod Acceptance
-pub mod Report
-pub mod System
+-- Nothing of its own: the definitions of the crates below.

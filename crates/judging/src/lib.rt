@@ -22,13 +22,9 @@ ghost use mathlib.Core.Path.{_≡_};
 ghost use lib.ListN.{length};
 ghost use Rattle.reading.specs.declared.Reading.{Reading};
 ghost use Rattle.reading.specs.Read.{readOf};
-ghost use Rattle.judging.specs.Verdict.{checkOf, testedOf, singleOf};
-ghost use Rattle.judging.specs.Report.{reportOf};
-ghost use Rattle.judging.specs.System.{Claim};
-
-pub mod acceptance;
-pub mod report;
-pub mod verdicts;
+ghost use Rattle.verdicts.specs.Verdict.{checkOf, testedOf, singleOf};
+ghost use Rattle.report.specs.Report.{reportOf};
+ghost use Rattle.soundness.specs.System.{Claim};
 
 // Checks a file: 0 and the total of its conditions where all of them are true, so that what the file claims is true of every run; else the refusal
 // that meets it. The report has the same fields.

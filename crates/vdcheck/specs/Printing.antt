@@ -4,8 +4,8 @@ use mathlib.Core.Bool.{cond}
 use mathlib.Core.List.{List, [], _∷_, _++_}
 use lib.Dec.{ltb}
 use lib.ListN.{replicate}
-use Rattle.judging.specs.Verdict.{checkOf}
-use Rattle.judging.specs.Report.{reportOf}
+use Rattle.verdicts.specs.Verdict.{checkOf}
+use Rattle.report.specs.Report.{reportOf}
 
 -- 0 to 9, then a to f, in ASCII
 unfoldable pub digitOf : ℕ → ℕ

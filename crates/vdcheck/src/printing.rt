@@ -2,7 +2,7 @@
 ghost use mathlib.Core.Path.{_≡_};
 ghost use Prim.Native.Nat.{_/_, _%_, _<_};
 ghost use lib.ListN.{getD};
-ghost use Rattle.judging.specs.System.{Claim};
+ghost use Rattle.soundness.specs.System.{Claim};
 ghost use Rattle.vdcheck.specs.Printing.{digitOf, lineOf, printedOf};
 
 // The small hexadecimal digit of a number below 16, in ASCII.

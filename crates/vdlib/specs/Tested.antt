@@ -1,7 +1,7 @@
 -- The single test for C and Rust: "one of the refusals tried from 2 through 12, else holds or fails". A refusal has its number and its place; a
 -- test that was made has 0 for both, as "Accepted is 0".
 use mathlib.Core.Bool.{true, false}
-use Rattle.judging.specs.declared.verdicts.Single.{Single}
+use Rattle.verdicts.specs.declared.Single.{Single}
 use Rattle.vdlib.specs.declared.Tested.{Tested}
 
 unfoldable pub testedOf : Single → Tested

@@ -1,11 +1,11 @@
 // The library for C and Rust: the check and the single test over plain bytes, whose answers are plain numbers.
-use judging::report::Verdict;
-use judging::verdicts::Single;
+use report::Verdict;
+use verdicts::Single;
 ghost use mathlib.Core.Path.{_≡_};
 ghost use lib.ListN.{length};
-ghost use Rattle.judging.specs.Verdict.{checkOf, singleOf};
-ghost use Rattle.judging.specs.Report.{reportOf};
-ghost use Rattle.judging.specs.System.{Claim};
+ghost use Rattle.verdicts.specs.Verdict.{checkOf, singleOf};
+ghost use Rattle.report.specs.Report.{reportOf};
+ghost use Rattle.soundness.specs.System.{Claim};
 ghost use Rattle.vdlib.specs.Tested.{testedOf};
 
 // `number` is 0 if the condition is tested, and `holds` tells whether it holds at the state; else it is the refusal's, with its place.

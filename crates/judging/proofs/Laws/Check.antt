@@ -21,14 +21,14 @@ use Rattle.reading.specs.Read.{readOf}
 use Rattle.reading.proofs.Laws.Refusal.{read-refuses}
 use Rattle.states.proofs.Laws.State.{within-length, ends-length}
 use Rattle.conditions.specs.Condition.{Listed}
-use Rattle.judging.specs.Verdict.{unnamedOf, judgedOf, verdictBy, checkOf}
-use Rattle.judging.specs.Report.{reportOf}
-use Rattle.judging.specs.System.{Claim}
+use Rattle.verdicts.specs.Verdict.{unnamedOf, judgedOf, verdictBy, checkOf}
+use Rattle.report.specs.Report.{reportOf}
+use Rattle.soundness.specs.System.{Claim}
 use Rattle.conditions.specs.declared.Condition.{Condition}
-use Rattle.judging.specs.declared.report.Verdict.{Verdict}
-use Rattle.judging.proofs.Laws.Verdict.{Everywhere, accepted, accepts, Names, refused}
-use Rattle.judging.proofs.Laws.Report.{report-rest}
-use Rattle.judging.proofs.Laws.Sound.{sound}
+use Rattle.report.specs.declared.Verdict.{Verdict}
+use Rattle.verdicts.proofs.Laws.Verdict.{Everywhere, accepted, accepts, Names, refused}
+use Rattle.report.proofs.Laws.Report.{report-rest}
+use Rattle.soundness.proofs.Laws.Sound.{sound}
 
 -- ---- demand 3
 reading-claims : (file : List ℕ) (x : Reading) → readOf file ≡ x → verdictBy file x .number ≡ 0 → Claim file

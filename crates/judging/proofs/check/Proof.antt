@@ -1,7 +1,7 @@
 -- `judging::check` meets its contract: a report that is too short is left as it is; the verdict is written to any other. An acceptance is sound.
 -- Assumes nothing.
 use mathlib.Core.Path.{sym, _∙_}
-use Rattle.judging.proofs.Laws.Report.{report-short}
+use Rattle.report.proofs.Laws.Report.{report-short}
 use Rattle.judging.proofs.Laws.Check.{check-short, check-long, check-claims}
 use borrow.Author.Needs.{needs}
 use Rattle.judging.proofs.check.Statement.{statement}

@@ -1,7 +1,7 @@
 -- `judging::single` meets its contract, by the case that reading answers.
 -- Assumes nothing.
 use mathlib.Core.Path.{sym, _∙_}
-use Rattle.judging.specs.Verdict.{singleBy, singleOf}
+use Rattle.verdicts.specs.Verdict.{singleBy, singleOf}
 use borrow.Author.Needs.{needs}
 use Rattle.judging.proofs.single.Statement.{statement}
 use Rattle.judging.proofs.single.Tie as tie

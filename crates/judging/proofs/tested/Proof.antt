@@ -5,10 +5,10 @@ use mathlib.Core.Bool.{cond}
 use native.Mathlib.Omega.{arith}
 use Rattle.reading.proofs.Laws.Readable.{small, variables-within}
 use Rattle.testing.specs.Testing.{nodesOf, transitionsOf}
-use Rattle.judging.specs.Verdict.{testedOf}
-use Rattle.judging.specs.declared.verdicts.Single.{Single}
-use Rattle.judging.proofs.Steps.Verdict.{count-is, count-asks, spans-serve, nodes-ask, transitions-ask, Ready, test-asks, state-asks}
-use Rattle.judging.proofs.Steps.Verdict.{single-asks, single-answers, tested-eleven, tested-twelve}
+use Rattle.verdicts.specs.Verdict.{testedOf}
+use Rattle.verdicts.specs.declared.Single.{Single}
+use Rattle.verdicts.proofs.Steps.Verdict.{count-is, count-asks, spans-serve, nodes-ask, transitions-ask, Ready, test-asks, state-asks}
+use Rattle.verdicts.proofs.Steps.Verdict.{single-asks, single-answers, tested-eleven, tested-twelve}
 use borrow.Author.Needs.{needs}
 use Rattle.judging.proofs.tested.Statement.{statement}
 use Rattle.judging.proofs.tested.Tie as tie

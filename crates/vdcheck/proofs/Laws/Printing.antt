@@ -9,8 +9,8 @@ use Prim.Native.Nat.{ℕ, _+_, _/_, _%_}
 use native.Mathlib.Omega.{arith}
 use lib.ListN.{getD}
 use lib.Dec.{ltb}
-use Rattle.judging.specs.Verdict.{checkOf}
-use Rattle.judging.specs.Report.{reportOf, reportBytes}
+use Rattle.verdicts.specs.Verdict.{checkOf}
+use Rattle.report.specs.Report.{reportOf, reportBytes}
 use Rattle.vdcheck.specs.Printing.{digitOf, digitsOf, lineOf, printedOf}
 
 digit-zero : (n : ℕ) → digitOf n ≡ 48 → n ≡ 0

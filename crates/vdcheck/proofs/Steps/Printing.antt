@@ -7,7 +7,7 @@ use native.Mathlib.Numerals.{add-one}
 use native.Mathlib.Omega.{arith}
 use lib.ListN.{length, take, getD, set, replicate}
 use lib.Seq.{take-suc, take-all, length-take-le}
-use Rattle.judging.proofs.Laws.Report.{set-pair-at}
+use Rattle.report.proofs.Laws.Report.{set-pair-at}
 use Rattle.vdcheck.specs.Printing.{digitOf, digitsOf, lineOf}
 
 digits-append : (s t : List ℕ) → digitsOf (s ++ t) ≡ digitsOf s ++ digitsOf t

@@ -2,9 +2,9 @@
 use borrow.Author.Needs.{needs}
 use mathlib.Core.Path.{_≡_, ap, _∙_}
 use lib.ListN.{replicate}
-use Rattle.judging.specs.Verdict.{checkOf}
-use Rattle.judging.specs.Report.{reportOf}
-use Rattle.judging.specs.declared.report.Verdict.{Verdict}
+use Rattle.verdicts.specs.Verdict.{checkOf}
+use Rattle.report.specs.Report.{reportOf}
+use Rattle.report.specs.declared.Verdict.{Verdict}
 use Rattle.vdcheck.specs.Printing.{lineOf, printedOf}
 use Rattle.vdcheck.proofs.Laws.Printing.{printed-zero}
 use Rattle.vdcheck.proofs.printing.printed.Statement.{statement}

@@ -1,6 +1,0 @@
--- What the proofs of the code's loops share.
-pub mod Pass
-pub mod Report
-pub mod Verdict
-pub mod Everywhere
-pub mod Acceptance

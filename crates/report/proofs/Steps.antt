@@ -1,0 +1,2 @@
+-- What the proofs of the code's loops share.
+pub mod Report

@@ -1,0 +1,2 @@
+-- The report of a verdict.
+pub mod Report

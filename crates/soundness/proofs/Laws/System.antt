@@ -1,0 +1,52 @@
+-- The system of a file has the states and steps of document 01, and none is missing.
+--     successor-state     the successor of an enabled transition at a state is a state
+--     step-run            so a state and its successor are a run
+--     state-run           and a state by itself is one: a run "begins in any state"
+-- Assumes nothing.
+use mathlib.Core.Path.{_≡_, refl}
+use mathlib.Core.Logic.{inr}
+use mathlib.Core.List.{List, [], _∷_}
+use Prim.Native.Nat.{ℕ, zero, suc, _<_}
+use native.Mathlib.Omega.{arith}
+use lib.Dec.{T}
+use lib.IntN.{ℤ}
+use Rattle.parsing.specs.declared.outline.Outline.{Outline}
+use Rattle.reading.specs.declared.Reading.{Reading}
+use Rattle.reading.specs.Edge.{transitionAt}
+use Rattle.reading.specs.Read.{readOf}
+use Rattle.states.specs.State.{State}
+use Rattle.evaluating.specs.Transition.{enabledOf}
+use Rattle.evaluating.proofs.Laws.Readable as readable
+use Rattle.testing.specs.Holding.{guardHolds, valuesFit, nextState}
+use Rattle.runs.specs.Run.{finite, Position, at, enabled, Step, IsRun}
+use Rattle.soundness.specs.System.{systemOf}
+use Rattle.runs.proofs.Laws.Truth.{is-true}
+
+module _ (file : List ℕ) (o : Outline) (r : readOf file ≡ Reading.Readable o) (s : List ℤ) (w : State file (o .vars) s) where
+  pub state-run : IsRun (systemOf file o) (finite s [])
+  state-run = record { states = states; steps = steps }
+    where
+      states : (n : ℕ) → Position (finite s []) n → State file (o .vars) (at (finite s []) n)
+      states zero p = w
+      states (suc n) p = absurd (omega arith)
+
+      steps : (n : ℕ) → Position (finite s []) (suc n) → Step (systemOf file o) (at (finite s []) n) (at (finite s []) (suc n))
+      steps n p = absurd (omega arith)
+
+  module _ (t : ℕ) (e : T (enabled (systemOf file o) t s)) where
+    pub successor-state : State file (o .vars) (nextState file o t s)
+    unfolding nextState guardHolds valuesFit enabledOf
+    successor-state = readable.successor-within file o r s w (transitionAt file o t) (is-true _ e)
+
+    pub step-run : t < o .transitions → IsRun (systemOf file o) (finite s (nextState file o t s ∷ []))
+    step-run l = record { states = states; steps = steps }
+      where
+        states : (n : ℕ) → Position (finite s (nextState file o t s ∷ [])) n → State file (o .vars) (at (finite s (nextState file o t s ∷ [])) n)
+        states zero p = w
+        states (suc zero) p = successor-state
+        states (suc (suc n)) p = absurd (omega arith)
+
+        steps : (n : ℕ) → Position (finite s (nextState file o t s ∷ [])) (suc n)
+            → Step (systemOf file o) (at (finite s (nextState file o t s ∷ [])) n) (at (finite s (nextState file o t s ∷ [])) (suc n))
+        steps zero p = inr (t, l, (e, refl))
+        steps (suc n) p = absurd (omega arith)

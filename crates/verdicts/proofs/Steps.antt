@@ -1,0 +1,5 @@
+-- What the proofs of the code's loops share.
+pub mod Pass
+pub mod Verdict
+pub mod Everywhere
+pub mod Acceptance

@@ -1,0 +1,76 @@
+-- The verdict on a file, and the single test: "Numbers of refusal", "Single test and report".
+use mathlib.Core.Bool.{Bool, cond}
+use mathlib.Core.List.{List}
+use Prim.Native.Nat.{ℕ}
+use lib.ListN.{replicate}
+use lib.Dec.{ltb, leb}
+use lib.IntN.{ℤ, pos}
+use Rattle.parsing.specs.declared.outline.Outline.{Outline}
+use Rattle.reading.specs.declared.Reading.{Reading}
+use Rattle.reading.specs.Read.{readOf}
+use Rattle.states.specs.State.{lowsOf, highsOf}
+use Rattle.states.specs.Number.{countOf, stateOf}
+use Rattle.conditions.specs.Search.{first}
+use Rattle.conditions.specs.Condition.{totalOf, conditionAt, refusalNumber, nodeNumber, transitionNumber}
+use Rattle.testing.specs.Holding.{conditionHolds}
+use Rattle.conditions.specs.declared.Condition.{Condition}
+use Rattle.report.specs.declared.Verdict.{Verdict}
+use Rattle.verdicts.specs.declared.Single.{Single}
+
+-- ---- states by number
+unfoldable pub statesOf : List ℕ → Outline → ℕ
+statesOf file o = countOf (lowsOf file (o .vars)) (highsOf file (o .vars))
+
+unfoldable pub stateAt : List ℕ → Outline → ℕ → List ℤ
+stateAt file o n = stateOf (lowsOf file (o .vars)) (highsOf file (o .vars)) n
+
+-- ---- verdicts
+-- "255 where the condition has none or no condition is named"; "zero .. where no condition is named; an acceptance names none"
+unfoldable pub unnamedOf : ℕ → ℕ → Verdict
+unnamedOf number at = record { number = number; node = 255; transition = 255; at = at; values = replicate 12 (pos 0) }
+
+-- "byte 0 the number; 1 node and 2 transition ..; 4-7, low byte first, the condition ..; 8-31 twelve signed 16-bit values of the state"
+unfoldable pub namedOf : Condition → ℕ → List ℤ → Verdict
+namedOf c number state =
+    record { number = refusalNumber c; node = nodeNumber c; transition = transitionNumber c; at = number; values = state }
+
+-- the lowest state that breaks a condition, by its number, or how many states there are
+unfoldable pub breakingOf : List ℕ → Outline → Condition → ℕ
+breakingOf file o c = first (λ n. conditionHolds file o c (stateAt file o n)) (statesOf file o)
+
+-- no state breaks it: it "is true at every state in the ranges"
+unfoldable pub isTrue : List ℕ → Outline → Condition → Bool
+isTrue file o c = leb (statesOf file o) (breakingOf file o c)
+
+-- "If conditions are broken, the lowest is given": the lowest broken condition, by its number, or the total
+unfoldable pub brokenOf : List ℕ → Outline → ℕ
+brokenOf file o = first (λ c. isTrue file o (conditionAt file o c)) (totalOf file o)
+
+-- of a readable file: "the first untrue condition is named with a state that breaks it", or "for 0 the total"
+unfoldable pub judgedOf : List ℕ → Outline → Verdict
+judgedOf file o =
+    cond (ltb (brokenOf file o) (totalOf file o))
+    (namedOf (conditionAt file o (brokenOf file o)) (brokenOf file o) (stateAt file o (breakingOf file o (conditionAt file o (brokenOf file o)))))
+    (unnamedOf 0 (totalOf file o))
+
+unfoldable pub verdictBy : List ℕ → Reading → Verdict
+verdictBy file (Reading.Readable o) = judgedOf file o
+verdictBy file (Reading.Refused number place) = unnamedOf number place
+
+-- "1. The report buffer is under 32 bytes.": `room` is its length
+unfoldable pub checkOf : List ℕ → ℕ → Verdict
+checkOf file room = cond (ltb room 32) (unnamedOf 1 0) (verdictBy file (readOf file))
+
+-- ---- the single test: "one of the refusals tried from 2 through 12, else holds or fails"
+unfoldable pub testedOf : List ℕ → Outline → ℕ → ℕ → Single
+testedOf file o condition state =
+    cond (leb (totalOf file o) condition) (Single.Refused 11 0)
+    (cond (leb (statesOf file o) state) (Single.Refused 12 0)
+    (cond (conditionHolds file o (conditionAt file o condition) (stateAt file o state)) Single.Holds Single.Fails))
+
+unfoldable pub singleBy : List ℕ → Reading → ℕ → ℕ → Single
+singleBy file (Reading.Readable o) condition state = testedOf file o condition state
+singleBy file (Reading.Refused number place) condition state = Single.Refused number place
+
+unfoldable pub singleOf : List ℕ → ℕ → ℕ → Single
+singleOf file condition state = singleBy file (readOf file) condition state

@@ -1,5 +1,5 @@
 // The verification conditions of a diagram: how many there are, and the condition of a number.
-use parsing::outline::Outline;
+use parsing::Outline;
 use reading::edges::double_from;
 use records::byte_at;
 ghost use mathlib.Core.Path.{_≡_};

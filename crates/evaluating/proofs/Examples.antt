@@ -16,7 +16,7 @@ use Rattle.records.specs.Place
 use Rattle.intervals.specs.Interval
 use Rattle.reading.proofs.Files
 use Rattle.reading.proofs.Files.{agree, range, transition, assignment, constant, variable, plain}
-use Rattle.evaluating.specs.declared.transitions.Stepped.{Stepped}
+use Rattle.evaluating.specs.declared.Stepped.{Stepped}
 use Rattle.expressions.specs.Expression
 use Rattle.states.specs.State
 use Rattle.states.specs.State.{lowsOf, highsOf}

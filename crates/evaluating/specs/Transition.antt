@@ -10,9 +10,9 @@ use Rattle.integers.specs.Interval.{between}
 use Rattle.records.specs.Record.{fieldA, kindIs}
 use Rattle.records.specs.Kind.{number as numberSort, truth as truthSort}
 use Rattle.expressions.specs.Expression.{partAt, number, truth, Fits}
-use Rattle.evaluating.specs.declared.transitions.Assignment.{Assignment}
-use Rattle.evaluating.specs.declared.transitions.Assigned.{Assigned}
-use Rattle.evaluating.specs.declared.transitions.Stepped.{Stepped}
+use Rattle.evaluating.specs.declared.Assignment.{Assignment}
+use Rattle.evaluating.specs.declared.Assigned.{Assigned}
+use Rattle.evaluating.specs.declared.Stepped.{Stepped}
 use Rattle.expressions.specs.Expression.{behind}
 
 -- ---- the assignments of a transition

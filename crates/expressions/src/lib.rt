@@ -1,4 +1,6 @@
 // What the expression that a part of the file begins with is worth in a state.
+pub mod spans;
+
 use integers::bytes::signed16;
 use integers::state::widen;
 ghost use mathlib.Core.Path.{_≡_};
@@ -170,5 +172,3 @@ pub fn holds(file: &[u8], spans: &[u16; 4096], at: usize, state: [i16; 12]) -> b
 {
     truth_at(&file[8 * at..], spans, at, state, 16)
 }
-
-pub mod spans;

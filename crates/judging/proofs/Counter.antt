@@ -6,7 +6,7 @@ use mathlib.Core.List.{List, _∷_, flatten}
 use Prim.Native.Nat.{ℕ}
 use lib.IntN.{ℤ, pos}
 use lib.ListN.{replicate}
-use Rattle.parsing.specs.declared.outline.Outline.{Outline}
+use Rattle.parsing.specs.declared.Outline.{Outline}
 use Rattle.reading.specs.declared.Reading.{Reading}
 use Rattle.reading.specs.Edge.{justOf}
 use Rattle.reading.specs.Read.{readOf}

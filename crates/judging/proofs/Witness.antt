@@ -13,7 +13,7 @@ use native.Mathlib.Nat.{add-zero}
 use native.Mathlib.Omega.{arith}
 use lib.Dec.{T}
 use lib.IntN.{ℤ}
-use Rattle.parsing.specs.declared.outline.Outline.{Outline}
+use Rattle.parsing.specs.declared.Outline.{Outline}
 use Rattle.states.specs.State.{State}
 use Rattle.evaluating.proofs.Laws.Readable as readable
 use Rattle.testing.specs.Diagram.{startHolds, pHolds, qHolds}

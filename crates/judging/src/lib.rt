@@ -2,7 +2,7 @@
 use conditions::condition_at;
 use conditions::total;
 use expressions::spans::spans_of;
-use parsing::outline::Outline;
+use parsing::Outline;
 use reading::Reading;
 use reading::read;
 use report::Verdict;

@@ -6,7 +6,7 @@ use lib.ListN.{length}
 use lib.Dec.{leb, eqb}
 use Rattle.records.specs.declared.walk.Walked.{Walked}
 use Rattle.sections.specs.declared.Section.{Section}
-use Rattle.parsing.specs.declared.outline.Parsed.{Parsed}
+use Rattle.parsing.specs.declared.Parsed.{Parsed}
 use Rattle.records.specs.Record.{kindIs}
 use Rattle.records.specs.Walk.{inSequence, truthOf}
 use Rattle.sections.specs.Section.{noFields, propertyFields, variablesOf, transitionsOf, expressionsOf, phasesOr, nodesOf, edgesOf}

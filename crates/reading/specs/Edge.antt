@@ -6,7 +6,7 @@ use mathlib.Core.List.{List}
 use lib.ListN.{length}
 use lib.Dec.{ltb, leb, eqb}
 use Rattle.records.specs.declared.walk.Walked.{Walked}
-use Rattle.parsing.specs.declared.outline.Outline.{Outline}
+use Rattle.parsing.specs.declared.Outline.{Outline}
 use Rattle.records.specs.Walk.{inSequence}
 use Rattle.records.specs.Record.{fieldA, fieldB, fieldC, fieldD}
 use Rattle.sections.specs.Section.{transitionOf}

@@ -6,7 +6,7 @@ use Prim.Native.Nat.{ℕ, _+_, _<_, _≤_}
 use Rattle.integers.specs.declared.Interval.{Interval}
 use Rattle.integers.specs.Interval.{inBounds}
 use Rattle.records.specs.declared.walk.Walked.{Walked}
-use Rattle.parsing.specs.declared.outline.Outline.{Outline}
+use Rattle.parsing.specs.declared.Outline.{Outline}
 use Rattle.records.specs.Record.{kindAt, fieldA, fieldB, fieldC, fieldD, kindIs}
 use Rattle.records.specs.Kind.{number, truth, formAt, signatureAt}
 use Rattle.records.specs.Walk.{inSequence, truthOf}

@@ -1,5 +1,5 @@
 // The edge rules: refusals 9 and 10.
-use parsing::outline::Outline;
+use parsing::Outline;
 use records::byte_at;
 use records::walk::Walked;
 use records::word_at;

@@ -1,7 +1,7 @@
 // Reading a file: its parts (crate parsing), then refusals 7 to 10.
-use parsing::outline::Outline;
-use parsing::outline::Parsed;
-use parsing::outline::parse;
+use parsing::Outline;
+use parsing::Parsed;
+use parsing::parse;
 use records::walk::Walked;
 ghost use mathlib.Core.Path.{_≡_};
 ghost use Rattle.reading.specs.Edge.{Fits};

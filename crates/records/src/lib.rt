@@ -1,4 +1,7 @@
 // Records of 8 bytes, and their fields.
+pub mod kinds;
+pub mod walk;
+
 ghost use mathlib.Core.Path.{_≡_};
 ghost use Prim.Native.Nat.{_+_, _≤_, _<_, _^_};
 ghost use lib.ListN.{length, getD};
@@ -83,6 +86,3 @@ pub fn kind_is(file: &[u8], kind: u8, at: usize) -> bool
     }
     false
 }
-
-pub mod kinds;
-pub mod walk;

@@ -4,7 +4,7 @@ use mathlib.Core.List.{List}
 use Prim.Native.Nat.{ℕ, _+_}
 use lib.Dec.{eqb}
 use lib.IntN.{ℤ}
-use Rattle.parsing.specs.declared.outline.Outline.{Outline}
+use Rattle.parsing.specs.declared.Outline.{Outline}
 use Rattle.records.specs.Walk.{inSequence, truthOf}
 use Rattle.sections.specs.Section.{nodeOf}
 use Rattle.records.specs.Place.{placeOf}

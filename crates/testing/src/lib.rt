@@ -1,9 +1,9 @@
 // The test of a condition at a state. A condition is prepared once: what does not depend on the state is looked up before its first test.
 use conditions::Condition;
 use conditions::double_of;
-use evaluating::transitions::step;
+use evaluating::step;
 use expressions::holds;
-use parsing::outline::Outline;
+use parsing::Outline;
 use records::byte_at;
 use records::walk::Walked;
 use records::walk::truths;

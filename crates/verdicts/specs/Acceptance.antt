@@ -7,7 +7,7 @@ use Prim.Native.Nat.{ℕ, zero, suc, _+_, _*_, _-_, _≤_, _<_}
 use lib.ListN.{getD}
 use lib.Dec.{eqb, ltb}
 use lib.IntN.{ℤ}
-use Rattle.parsing.specs.declared.outline.Outline.{Outline}
+use Rattle.parsing.specs.declared.Outline.{Outline}
 use Rattle.records.specs.Record.{fieldC}
 use Rattle.records.specs.Kind.{truth as truthSort}
 use Rattle.records.specs.Place.{tabulate}
@@ -15,7 +15,7 @@ use Rattle.records.specs.Search.{any}
 use Rattle.reading.specs.declared.Reading.{Reading}
 use Rattle.reading.specs.Edge.{double, diagram}
 use Rattle.reading.specs.Read.{readOf}
-use Rattle.evaluating.specs.declared.transitions.Stepped.{Stepped}
+use Rattle.evaluating.specs.declared.Stepped.{Stepped}
 use Rattle.expressions.specs.Expression.{partAt, holdsOf, Fits, Spans}
 use Rattle.states.specs.State.{lowsOf, highsOf, Within}
 use Rattle.evaluating.specs.Transition.{stepOf, TransitionFits}

@@ -5,7 +5,7 @@ use Prim.Native.Nat.{ℕ}
 use lib.ListN.{replicate}
 use lib.Dec.{ltb, leb}
 use lib.IntN.{ℤ, pos}
-use Rattle.parsing.specs.declared.outline.Outline.{Outline}
+use Rattle.parsing.specs.declared.Outline.{Outline}
 use Rattle.reading.specs.declared.Reading.{Reading}
 use Rattle.reading.specs.Read.{readOf}
 use Rattle.states.specs.State.{lowsOf, highsOf}

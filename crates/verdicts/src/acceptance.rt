@@ -1,10 +1,10 @@
 // The conditions that are true, in one pass over the states: what several conditions speak of at a state, a node's assertion or a transition's step, is
 // worked out once for all of them.
 use conditions::Blocks;
-use evaluating::transitions::Stepped;
-use evaluating::transitions::step;
+use evaluating::Stepped;
+use evaluating::step;
 use expressions::holds;
-use parsing::outline::Outline;
+use parsing::Outline;
 use records::byte_at;
 use records::word_at;
 use states::advance;

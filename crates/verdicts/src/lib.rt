@@ -1,4 +1,6 @@
 // The verdict on a file: the lowest broken condition with the lowest state that breaks it; and what a single test answers.
+pub mod acceptance;
+
 use crate::acceptance::conditions_in;
 use crate::acceptance::find;
 use conditions::Condition;
@@ -7,7 +9,7 @@ use conditions::layout;
 use conditions::total;
 use expressions::holds;
 use expressions::spans::spans_of;
-use parsing::outline::Outline;
+use parsing::Outline;
 use reading::Reading;
 use reading::read;
 use report::Verdict;
@@ -212,5 +214,3 @@ pub fn verdict(file: &[u8]) -> Verdict
         Reading::Refused(number, place) => unnamed(number, place as u32),
     }
 }
-
-pub mod acceptance;

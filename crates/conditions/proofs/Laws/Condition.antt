@@ -23,7 +23,7 @@ use borrow.Author.Tests.{eq-eqb, ne-eqb, eqb-true, eqb-false, lt-ltb, le-ltb}
 use lib.Dec.{eqb, ltb}
 use lib.ListN.{length, getD, length-append, List·getD-append}
 use lib.Seq.{getD-append-add}
-use Rattle.parsing.specs.declared.outline.Outline.{Outline}
+use Rattle.parsing.specs.declared.Outline.{Outline}
 use Rattle.reading.specs.declared.Reading.{Reading}
 use Rattle.reading.specs.Edge.{diagram}
 use Rattle.reading.specs.Read.{readOf}

@@ -17,7 +17,7 @@ use lib.IntN.{ℤ, pos}
 use lib.ListN.{length, getD}
 use Rattle.integers.specs.declared.Interval.{Interval}
 use Rattle.integers.specs.Interval.{In}
-use Rattle.parsing.specs.declared.outline.Outline.{Outline}
+use Rattle.parsing.specs.declared.Outline.{Outline}
 use Rattle.records.specs.Record.{fieldA, valueB, valueC}
 use Rattle.records.specs.Kind.{number as numberSort, truth as truthSort}
 use Rattle.sections.specs.Section.{expressionsOf}

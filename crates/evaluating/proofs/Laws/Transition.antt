@@ -12,7 +12,7 @@ use lib.ListN.{length, getD, set, length-set}
 use lib.Seq.{getD-set-same, getD-set-other}
 use lib.Signed.{leZ, _≤ℤ_}
 use Rattle.integers.proofs.Laws.Parts.{ints}
-use Rattle.evaluating.specs.declared.transitions.Assignment.{Assignment}
+use Rattle.evaluating.specs.declared.Assignment.{Assignment}
 use Rattle.states.specs.State.{Within}
 use Rattle.evaluating.specs.Transition.{inRangeOf, allInRange, assigned}
 use Rattle.states.proofs.Laws.State.{within-set}

@@ -8,9 +8,9 @@ use lib.ListN.{length, set}
 use Rattle.expressions.specs.Expression.{partAt, Fits}
 use Rattle.records.specs.Record.{fieldA, kindIs}
 use Rattle.records.specs.Kind.{number as numberSort}
-use Rattle.evaluating.specs.declared.transitions.Assignment.{Assignment}
-use Rattle.evaluating.specs.declared.transitions.Assigned.{Assigned}
-use Rattle.evaluating.specs.declared.transitions.Stepped.{Stepped}
+use Rattle.evaluating.specs.declared.Assignment.{Assignment}
+use Rattle.evaluating.specs.declared.Assigned.{Assigned}
+use Rattle.evaluating.specs.declared.Stepped.{Stepped}
 use Rattle.expressions.specs.Expression.{behind}
 use Rattle.evaluating.specs.Transition.{assignmentAt, assignmentsFrom, inRangeOf, allInRange, assigned, guardOf, assignmentsOf, enabledOf, successorOf, assignOf, stepOf, AssignmentsFit}
 

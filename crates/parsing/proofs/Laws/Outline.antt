@@ -13,8 +13,8 @@ use Rattle.records.specs.declared.walk.Walked.{Walked}
 use Rattle.records.specs.declared.walk.Walked.the-variants.{End}
 use Rattle.sections.specs.declared.Section.{Section}
 use Rattle.sections.specs.declared.Section.the-variants.{Items}
-use Rattle.parsing.specs.declared.outline.Outline.{Outline}
-use Rattle.parsing.specs.declared.outline.Parsed.{Parsed}
+use Rattle.parsing.specs.declared.Outline.{Outline}
+use Rattle.parsing.specs.declared.Parsed.{Parsed}
 use Rattle.records.specs.Walk.{inSequence, truthOf}
 use Rattle.records.specs.Record.{kindIs}
 use Rattle.sections.specs.Section.{noFields, variableFields, propertyFields, variablesOf, transitionsOf, expressionsOf, phasesOr, nodesOf, edgesOf}

@@ -16,7 +16,7 @@ use lib.Dec.{ltb, leb, eqb}
 use lib.Signed.{leZ, _≤ℤ_}
 use Rattle.integers.proofs.Laws.Parts.{parts-≤, leZ-true}
 use Rattle.records.specs.declared.walk.Walked.{Walked}
-use Rattle.parsing.specs.declared.outline.Outline.{Outline}
+use Rattle.parsing.specs.declared.Outline.{Outline}
 use Rattle.records.specs.Record.{fieldA, fieldB, fieldC, fieldD, valueB, valueC, zerosOf, sameBytes}
 use Rattle.records.specs.Walk.{truthOf}
 use Rattle.sections.specs.Section.{noFields, variableFields, transitionFields, propertyFields, edgeFields, variablesOf, transitionOf, transitionsOf, phasesOr, nodesOf, repeatedOf, edgesOf}

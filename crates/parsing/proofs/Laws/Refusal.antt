@@ -11,7 +11,7 @@ use lib.ListN.{length, getD, set, replicate}
 use lib.Dec.{ltb, leb, eqb}
 use Rattle.records.specs.declared.walk.Walked.{Walked}
 use Rattle.sections.specs.declared.Section.{Section}
-use Rattle.parsing.specs.declared.outline.Parsed.{Parsed}
+use Rattle.parsing.specs.declared.Parsed.{Parsed}
 use Rattle.records.specs.Record.{fieldA, kindIs}
 use Rattle.records.specs.Kind.{number, truth, signatureAt}
 use Rattle.records.specs.Walk.{expressionFields, andThen, inSequence, recordThen, walkOf, truthOf}

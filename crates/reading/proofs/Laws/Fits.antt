@@ -3,7 +3,7 @@
 use mathlib.Core.List.{List}
 use Prim.Native.Nat.{ℕ, _+_}
 use native.Mathlib.Omega.{arith}
-use Rattle.parsing.specs.declared.outline.Outline.{Outline}
+use Rattle.parsing.specs.declared.Outline.{Outline}
 use Rattle.records.specs.Kind.{truth}
 use Rattle.records.proofs.Laws.Walk.{walk-bound}
 use Rattle.sections.proofs.Laws.Section.{kind-here}

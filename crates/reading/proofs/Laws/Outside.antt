@@ -15,7 +15,7 @@ use Rattle.integers.specs.declared.Interval.{Interval}
 use Rattle.integers.specs.Interval.{inBounds}
 use Rattle.records.specs.declared.walk.Walked.{Walked}
 use Rattle.records.specs.declared.walk.Walked.the-variants.{End}
-use Rattle.parsing.specs.declared.outline.Outline.{Outline}
+use Rattle.parsing.specs.declared.Outline.{Outline}
 use Rattle.records.specs.Record.{kindAt, kindIs}
 use Rattle.records.specs.Kind.{none, formOf, signatureOf, formAt, signatureAt}
 use Rattle.records.specs.Walk.{inSequence, walkOf}

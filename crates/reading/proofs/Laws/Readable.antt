@@ -20,7 +20,7 @@ use lib.ListN.{length, getD}
 use lib.Dec.{leb, eqb}
 use lib.Signed.{_≤ℤ_}
 use Rattle.records.specs.declared.walk.Walked.{Walked}
-use Rattle.parsing.specs.declared.outline.Outline.{Outline}
+use Rattle.parsing.specs.declared.Outline.{Outline}
 use Rattle.records.specs.Record.{fieldA, fieldB, fieldC, fieldD, valueB, valueC, zerosOf}
 use Rattle.records.specs.Walk.{inSequence}
 use Rattle.sections.specs.Section.{noFields, propertyFields, expressionsOf, phasesOr, transitionOf, nodeOf, nodesOf}

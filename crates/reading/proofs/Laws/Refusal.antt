@@ -11,8 +11,8 @@ use lib.Dec.{ltb, leb, eqb}
 use Rattle.integers.specs.declared.Interval.{Interval}
 use Rattle.integers.specs.Interval.{inBounds}
 use Rattle.records.specs.declared.walk.Walked.{Walked}
-use Rattle.parsing.specs.declared.outline.Outline.{Outline}
-use Rattle.parsing.specs.declared.outline.Parsed.{Parsed}
+use Rattle.parsing.specs.declared.Outline.{Outline}
+use Rattle.parsing.specs.declared.Parsed.{Parsed}
 use Rattle.records.specs.Record.{kindAt}
 use Rattle.records.specs.Kind.{none, formAt, signatureAt}
 use Rattle.parsing.specs.Outline.{parsedOf}

@@ -13,7 +13,7 @@ use lib.Seq.{getD-set-same, getD-set-other}
 use lib.Dec.{ltb, leb, eqb}
 use Rattle.integers.specs.declared.Interval.{Interval}
 use Rattle.records.specs.declared.walk.Walked.{Walked}
-use Rattle.parsing.specs.declared.outline.Outline.{Outline}
+use Rattle.parsing.specs.declared.Outline.{Outline}
 use Rattle.records.specs.Record.{kindAt, fieldA, kindIs, zerosOf}
 use Rattle.records.specs.Kind.{none, number, truth, within, formOf, signatureOf, signatureAt}
 use Rattle.records.specs.Walk.{andThen, walkOf, truthOf}

@@ -18,7 +18,7 @@ use borrow.Author.Tests.{eq-eqb, ne-eqb, eqb-true}
 use lib.ListN.{length, getD, replicate, getD-replicate}
 use lib.Dec.{eqb}
 use lib.IntN.{ℤ}
-use Rattle.parsing.specs.declared.outline.Outline.{Outline}
+use Rattle.parsing.specs.declared.Outline.{Outline}
 use Rattle.records.specs.Record.{fieldB, fieldC}
 use Rattle.records.specs.Kind.{truth as truthSort}
 use Rattle.sections.specs.Section.{nodeOf, transitionOf, expressionsOf}

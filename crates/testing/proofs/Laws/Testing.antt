@@ -12,7 +12,7 @@ use lib.ListN.{length, getD, take, replicate, List·getD-append}
 use lib.Seq.{take-append-seam}
 use lib.Dec.{eqb}
 use lib.IntN.{ℤ}
-use Rattle.parsing.specs.declared.outline.Outline.{Outline}
+use Rattle.parsing.specs.declared.Outline.{Outline}
 use Rattle.sections.specs.Section.{expressionsOf}
 use Rattle.reading.specs.declared.Reading.{Reading}
 use Rattle.reading.specs.Edge.{diagram, transitionAt}

@@ -11,7 +11,7 @@ use lib.ListN.{length, getD, set, take, drop, replicate, length-set, length-appe
 use lib.Seq.{getD-set-same, getD-set-other, ext-getD, set-at, drop-cons, getD-take, length-take-le}
 use lib.Dec.{eqb}
 use lib.IntN.{ℤ}
-use Rattle.parsing.specs.declared.outline.Outline.{Outline}
+use Rattle.parsing.specs.declared.Outline.{Outline}
 use Rattle.records.specs.Record.{fieldC}
 use Rattle.records.specs.Place.{tabulate}
 use Rattle.records.specs.Search.{any}
@@ -20,7 +20,7 @@ use Rattle.reading.specs.declared.Reading.{Reading}
 use Rattle.reading.specs.Edge.{transitionAt}
 use Rattle.reading.specs.Read.{readOf}
 use Rattle.reading.proofs.Laws.Readable as readable
-use Rattle.evaluating.specs.declared.transitions.Stepped.{Stepped}
+use Rattle.evaluating.specs.declared.Stepped.{Stepped}
 use Rattle.expressions.specs.Expression.{holdsOf}
 use Rattle.states.specs.State.{Within}
 use Rattle.evaluating.specs.Transition.{guardOf, assignmentsOf, allInRange, enabledOf, successorOf, stepOf}

@@ -17,7 +17,7 @@ use borrow.Author.Tests.{lt-ltb, le-ltb, eqb-true, eqb-false, eq-eqb, ne-eqb}
 use lib.ListN.{getD}
 use lib.Dec.{eqb, ltb}
 use lib.IntN.{ℤ}
-use Rattle.parsing.specs.declared.outline.Outline.{Outline}
+use Rattle.parsing.specs.declared.Outline.{Outline}
 use Rattle.records.specs.Record.{fieldA, fieldB, fieldC}
 use Rattle.records.specs.Kind.{truth as truthSort}
 use Rattle.records.specs.Search.{any}
@@ -25,7 +25,7 @@ use Rattle.reading.specs.declared.Reading.{Reading}
 use Rattle.reading.specs.Edge.{double, diagram, transitionAt}
 use Rattle.reading.specs.Read.{readOf}
 use Rattle.reading.proofs.Laws.Readable as readable
-use Rattle.evaluating.specs.declared.transitions.Stepped.{Stepped}
+use Rattle.evaluating.specs.declared.Stepped.{Stepped}
 use Rattle.expressions.specs.Expression.{partAt, holdsOf, Fits}
 use Rattle.states.specs.State.{lowsOf, highsOf, State}
 use Rattle.evaluating.specs.Transition.{guardOf, assignmentsOf, allInRange, enabledOf, successorOf, stepOf}

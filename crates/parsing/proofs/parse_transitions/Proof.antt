@@ -1,10 +1,10 @@
--- `parsing::outline::parse_transitions` meets its contract: what `transitions` finds picks the case.
+-- `parsing::parse_transitions` meets its contract: what `transitions` finds picks the case.
 -- Assumes nothing.
 use mathlib.Core.Path.{sym, _∙_}
 use Rattle.parsing.specs.Outline.{transitionsParsed}
 use borrow.Author.Needs.{needs}
-use Rattle.parsing.proofs.outline.parse_transitions.Statement.{statement}
-use Rattle.parsing.proofs.outline.parse_transitions.Tie as tie
+use Rattle.parsing.proofs.parse_transitions.Statement.{statement}
+use Rattle.parsing.proofs.parse_transitions.Tie as tie
 
 transitions-requires : tie.Need-transitions-requires
 transitions-requires c κs = search needs

@@ -1,4 +1,4 @@
--- `parsing::outline::parse` meets its contract, by the tests passed.
+-- `parsing::parse` meets its contract, by the tests passed.
 -- Assumes nothing.
 use borrow.Author.Tests.{eq-eqb, ne-eqb, le-leb, lt-leb}
 use mathlib.Core.Path.{sym, _∙_}
@@ -6,8 +6,8 @@ use Rattle.sections.specs.Section.{variablesOf}
 use Rattle.parsing.specs.Outline.{parsedOf}
 use Rattle.sections.proofs.Laws.Section.{items-most}
 use borrow.Author.Needs.{needs}
-use Rattle.parsing.proofs.outline.parse.Statement.{statement}
-use Rattle.parsing.proofs.outline.parse.Tie as tie
+use Rattle.parsing.proofs.parse.Statement.{statement}
+use Rattle.parsing.proofs.parse.Tie as tie
 
 returns : tie.Need-returns
 unfolding parsedOf

@@ -1,11 +1,11 @@
--- `parsing::outline::parse_nodes` meets its contract: what `nodes` finds picks the case.
+-- `parsing::parse_nodes` meets its contract: what `nodes` finds picks the case.
 -- Assumes nothing.
 use borrow.Author.Tests.{le-leb, lt-leb}
 use mathlib.Core.Path.{sym, _∙_}
 use Rattle.parsing.specs.Outline.{nodesParsed}
 use borrow.Author.Needs.{needs}
-use Rattle.parsing.proofs.outline.parse_nodes.Statement.{statement}
-use Rattle.parsing.proofs.outline.parse_nodes.Tie as tie
+use Rattle.parsing.proofs.parse_nodes.Statement.{statement}
+use Rattle.parsing.proofs.parse_nodes.Tie as tie
 
 phases-or-requires : tie.Need-phases-or-requires
 phases-or-requires c κs = search needs

@@ -1,4 +1,4 @@
--- `evaluating::transitions::assign` meets its contract: what is left to do to `next` gives what all the assignments do to `state`.
+-- `evaluating::assign` meets its contract: what is left to do to `next` gives what all the assignments do to `state`.
 -- Assumes nothing.
 use borrow.Author.Tests.{not-true, not-false}
 use mathlib.Core.Path.{sym, _∙_}
@@ -9,8 +9,8 @@ use mir.Syntax.{w64}
 use Rattle.integers.proofs.Laws.Parts.{back}
 use Rattle.evaluating.specs.Transition.{assignmentsFrom}
 use Rattle.evaluating.proofs.Steps.Transition.{fits-more, Left, left-begins, left-none, left-end, left-variable, left-out, left-more}
-use Rattle.evaluating.proofs.transitions.assign.Statement.{statement}
-use Rattle.evaluating.proofs.transitions.assign.Tie as tie
+use Rattle.evaluating.proofs.assign.Statement.{statement}
+use Rattle.evaluating.proofs.assign.Tie as tie
 
 abbrev Inv-loop : tie.InvT-loop
 Inv-loop file spans first low high state next₀ at₀ left₀ next at left =

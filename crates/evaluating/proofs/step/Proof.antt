@@ -1,4 +1,4 @@
--- `evaluating::transitions::step` meets its contract. Assumes nothing.
+-- `evaluating::step` meets its contract. Assumes nothing.
 use mathlib.Core.Path.{sym, _∙_}
 use Prim.Native.Nat.{_+_, _*_, _≤_}
 use native.Mathlib.Omega.{arith}
@@ -10,8 +10,8 @@ use Rattle.expressions.proofs.Laws.Expression.{fits-here}
 use Rattle.expressions.proofs.Steps.Part.{take-rest, lent, entry, behind-is, behind-within}
 use Rattle.evaluating.proofs.Steps.Transition.{step-off, step-on}
 use borrow.Author.Needs.{needs}
-use Rattle.evaluating.proofs.transitions.step.Statement.{statement}
-use Rattle.evaluating.proofs.transitions.step.Tie as tie
+use Rattle.evaluating.proofs.step.Statement.{statement}
+use Rattle.evaluating.proofs.step.Tie as tie
 
 here : (s : tie.Start) → 8 * (s .args .at + 1) + 8 ≤ length (s .args .file .now)
 here s = fits-here (s .args .file .now) (s .args .at + 1) 16 truthSort (s .args .state) (s .pre .1 .guard)

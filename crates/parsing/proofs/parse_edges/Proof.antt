@@ -1,11 +1,11 @@
--- `parsing::outline::parse_edges` meets its contract: what `edges` finds picks the case.
+-- `parsing::parse_edges` meets its contract: what `edges` finds picks the case.
 -- Assumes nothing.
 use borrow.Author.Tests.{eq-eqb, ne-eqb}
 use mathlib.Core.Path.{sym, _∙_}
 use Rattle.parsing.specs.Outline.{edgesParsed}
 use borrow.Author.Needs.{needs}
-use Rattle.parsing.proofs.outline.parse_edges.Statement.{statement}
-use Rattle.parsing.proofs.outline.parse_edges.Tie as tie
+use Rattle.parsing.proofs.parse_edges.Statement.{statement}
+use Rattle.parsing.proofs.parse_edges.Tie as tie
 
 edges-requires : tie.Need-edges-requires
 edges-requires c κs = search needs

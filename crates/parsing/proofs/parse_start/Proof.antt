@@ -1,4 +1,4 @@
--- `parsing::outline::parse_start` meets its contract, by the tests passed.
+-- `parsing::parse_start` meets its contract, by the tests passed.
 -- Assumes nothing.
 use native.Mathlib.Omega.{arith}
 use borrow.Author.Tests.{le-leb, lt-leb, not-true, not-false}
@@ -6,8 +6,8 @@ use mathlib.Core.Path.{sym, _∙_}
 use Rattle.parsing.specs.Outline.{startParsed}
 use Rattle.sections.proofs.Laws.Section.{kind-here}
 use borrow.Author.Needs.{needs}
-use Rattle.parsing.proofs.outline.parse_start.Statement.{statement}
-use Rattle.parsing.proofs.outline.parse_start.Tie as tie
+use Rattle.parsing.proofs.parse_start.Statement.{statement}
+use Rattle.parsing.proofs.parse_start.Tie as tie
 
 returns : tie.Need-returns
 unfolding startParsed

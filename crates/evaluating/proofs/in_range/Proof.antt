@@ -1,11 +1,11 @@
--- `evaluating::transitions::in_range` meets its contract. Assumes nothing.
+-- `evaluating::in_range` meets its contract. Assumes nothing.
 use mathlib.Core.Path.{_∙_}
 use mir.Syntax.{w64}
 use Rattle.integers.proofs.Laws.Parts.{back}
 use Rattle.evaluating.specs.Transition.{inRangeOf}
 use borrow.Author.Needs.{needs}
-use Rattle.evaluating.proofs.transitions.in_range.Statement.{statement}
-use Rattle.evaluating.proofs.transitions.in_range.Tie as tie
+use Rattle.evaluating.proofs.in_range.Statement.{statement}
+use Rattle.evaluating.proofs.in_range.Tie as tie
 
 element-requires : tie.Need-element-requires
 element-requires c κs = search needs

@@ -1,4 +1,4 @@
--- `evaluating::transitions::with` meets its contract. Assumes nothing.
+-- `evaluating::with` meets its contract. Assumes nothing.
 use lib.IntN.{pos}
 use lib.ListN.{getD}
 use mir.Syntax.{w16}
@@ -6,8 +6,8 @@ use mir.Facts.{toZ-ofZ}
 use Rattle.integers.proofs.Laws.Parts.{back}
 use Rattle.evaluating.proofs.Laws.Transition.{in-range-ends}
 use borrow.Author.Needs.{needs}
-use Rattle.evaluating.proofs.transitions.with.Statement.{statement}
-use Rattle.evaluating.proofs.transitions.with.Tie as tie
+use Rattle.evaluating.proofs.with.Statement.{statement}
+use Rattle.evaluating.proofs.with.Tie as tie
 
 mul-l : tie.Need-mul-l
 mul-l c = search needs

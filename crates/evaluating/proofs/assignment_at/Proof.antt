@@ -1,4 +1,4 @@
--- `evaluating::transitions::assignment_at` meets its contract. Assumes nothing.
+-- `evaluating::assignment_at` meets its contract. Assumes nothing.
 use Prim.Native.Nat.{_+_, _*_, _≤_}
 use native.Mathlib.Omega.{arith}
 use lib.ListN.{length, getD}
@@ -9,8 +9,8 @@ use Rattle.evaluating.specs.Transition.{assignmentAt}
 use Rattle.expressions.proofs.Laws.Expression.{fits-here}
 use Rattle.expressions.proofs.Steps.Part.{take-rest, lent, entry, behind-is, behind-within}
 use borrow.Author.Needs.{needs}
-use Rattle.evaluating.proofs.transitions.assignment_at.Statement.{statement}
-use Rattle.evaluating.proofs.transitions.assignment_at.Tie as tie
+use Rattle.evaluating.proofs.assignment_at.Statement.{statement}
+use Rattle.evaluating.proofs.assignment_at.Tie as tie
 
 here : (s : tie.Start) → 8 * (s .args .at + 1) + 8 ≤ length (s .args .file .now)
 here s = fits-here (s .args .file .now) (s .args .at + 1) 16 numberSort (s .args .state) (s .pre .0)

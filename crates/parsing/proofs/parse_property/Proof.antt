@@ -1,4 +1,4 @@
--- `parsing::outline::parse_property` meets its contract, by the tests passed.
+-- `parsing::parse_property` meets its contract, by the tests passed.
 -- Assumes nothing.
 use native.Mathlib.Omega.{arith}
 use borrow.Author.Tests.{not-true, not-false}
@@ -6,8 +6,8 @@ use mathlib.Core.Path.{sym, _∙_}
 use Rattle.parsing.specs.Outline.{propertyParsed}
 use Rattle.sections.proofs.Laws.Section.{kind-here}
 use borrow.Author.Needs.{needs}
-use Rattle.parsing.proofs.outline.parse_property.Statement.{statement}
-use Rattle.parsing.proofs.outline.parse_property.Tie as tie
+use Rattle.parsing.proofs.parse_property.Statement.{statement}
+use Rattle.parsing.proofs.parse_property.Tie as tie
 
 kind-is-requires : tie.Need-kind-is-requires
 kind-is-requires c κs = search needs

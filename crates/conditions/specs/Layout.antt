@@ -7,7 +7,7 @@ use lib.Dec.{ltb, eqb}
 use Rattle.parsing.specs.declared.Outline.{Outline}
 use Rattle.records.specs.Record.{fieldA}
 use Rattle.reading.specs.Edge.{diagram, doubleFrom}
-use Rattle.conditions.specs.Search.{first}
+use Rattle.conditions.specs.Search.{firstFailing}
 use Rattle.conditions.specs.declared.Condition.{Condition}
 use Rattle.conditions.specs.declared.Condition.the-variants.{Start, Entry, Range, Step}
 use Rattle.conditions.specs.declared.Blocks.{Blocks}
@@ -27,7 +27,7 @@ pairOf n k = cond (eqb (k % 2) 0) (Range n (k / 2)) (Step n (k / 2))
 
 -- "the node's double transition": that of its first double edge, or one past the file's transitions where it has none
 unfoldable pub doubleEdge : List ℕ → Outline → ℕ → ℕ
-doubleEdge file o n = first (λ e. not (doubleFrom file n (o .edge + e))) (o .edges)
+doubleEdge file o n = firstFailing (λ e. not (doubleFrom file n (o .edge + e))) (o .edges)
 
 unfoldable pub doubleOf : List ℕ → Outline → ℕ → ℕ
 doubleOf file o n = cond (ltb (doubleEdge file o n) (o .edges)) (fieldA file (o .edge + doubleEdge file o n)) (o .transitions)

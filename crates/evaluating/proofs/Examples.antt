@@ -138,7 +138,7 @@ numbers =
 
 numbers-hold : Answers (λ part. Expression.number 16 part here) numbers
 unfolding Bytes.signed16 Kind.within Kind.formOf Kind.signatureOf Walk.spans Walk.span Interval.combine
-    Expression.first Expression.second Expression.indicatorOf Expression.compareOf
+    Expression.firstOperand Expression.secondOperand Expression.indicatorOf Expression.compareOf
     Expression.numberBy Expression.truthBy Expression.number
 numbers-hold = answers (λ part. Expression.number 16 part here) numbers refl
 
@@ -195,7 +195,7 @@ truths =
 
 truths-hold : Answers (λ part. Expression.truth 16 part here) truths
 unfolding Bytes.signed16 Tests.eqZ Kind.within Kind.formOf Kind.signatureOf Walk.spans Walk.span Interval.combine
-    Expression.first Expression.second Expression.indicatorOf Expression.connectOf Expression.compareOf
+    Expression.firstOperand Expression.secondOperand Expression.indicatorOf Expression.connectOf Expression.compareOf
     Expression.numberBy Expression.truthBy Expression.truth
 truths-hold = answers (λ part. Expression.truth 16 part here) truths refl
 
@@ -249,7 +249,7 @@ holding (file, at, state) = Expression.holdsOf file at state
 
 assertions-hold : Answers holding assertions
 unfolding flatten Bytes.signed16 Tests.eqZ Kind.within Kind.formOf Kind.signatureOf Walk.spans Walk.span
-    Expression.first Expression.second Expression.connectOf Expression.compareOf
+    Expression.firstOperand Expression.secondOperand Expression.connectOf Expression.compareOf
     Expression.numberBy Expression.truthBy Expression.truth Expression.holdsOf
 assertions-hold = answers holding assertions refl
 
@@ -322,17 +322,17 @@ states =
     ones : ℕ → List ℤ
     ones n = replicate n (pos 1)
 
-abbrev statesOf : List ℕ × ℕ × ℕ → List ℤ × ℕ × List ℤ
-statesOf (file, vars, n) =
+abbrev stateRow : List ℕ × ℕ × ℕ → List ℤ × ℕ × List ℤ
+stateRow (file, vars, n) =
     let lows = lowsOf file vars in
     let highs = highsOf file vars in
     let state = stateOf lows highs n in
     (state, numberOf lows highs state, advanceOf lows highs state)
 
-states-hold : Answers statesOf states
+states-hold : Answers stateRow states
 unfolding flatten Bytes.signed16 Radix.at Radix.offsetOf Place.tabulate State.endsOf
     Number.sizeOf Number.countOf Number.stateOf Number.numberOf Number.lastOf Number.advanceOf
-states-hold = answers statesOf states refl
+states-hold = answers stateRow states refl
 
 -- ---- transitions
 -- guard, enabled and next
@@ -374,8 +374,8 @@ stepsOf (file, vars, at, state) = (stepOf (lowsOf file vars) (highsOf file vars)
 
 steps-hold : Answers stepsOf steps
 unfolding flatten Bytes.signed16 Record.kindIs Kind.within Kind.formOf Kind.signatureOf Walk.spans Walk.span Place.tabulate Interval.combine
-    Expression.first Expression.second Expression.compareOf
+    Expression.firstOperand Expression.secondOperand Expression.compareOf
     Expression.numberBy Expression.truthBy Expression.number Expression.truth State.endsOf
     Expression.behind Transition.assignmentAt Transition.assignmentsFrom Transition.inRangeOf Transition.allInRange Transition.assigned
-    Transition.guardOf Transition.assignmentsOf Transition.enabledOf Transition.successorOf Transition.stepOf
+    Transition.guardOf Transition.assignmentList Transition.enabledOf Transition.successorOf Transition.stepOf
 steps-hold = answers stepsOf steps refl

@@ -44,14 +44,14 @@ unfoldable pub guardOf : List ℕ → ℕ → List ℤ → Bool
 guardOf file at state = truth 16 (partAt file (at + 1)) state
 
 -- its assignments, which are no more than the file has records
-unfoldable pub assignmentsOf : List ℕ → ℕ → List ℤ → List Assignment
-assignmentsOf file at state = assignmentsFrom file (length file / 8) (behind file (at + 1)) state
+unfoldable pub assignmentList : List ℕ → ℕ → List ℤ → List Assignment
+assignmentList file at state = assignmentsFrom file (length file / 8) (behind file (at + 1)) state
 
 unfoldable pub enabledOf : List ℤ → List ℤ → List ℕ → ℕ → List ℤ → Bool
-enabledOf lows highs file at state = guardOf file at state && allInRange lows highs (assignmentsOf file at state)
+enabledOf lows highs file at state = guardOf file at state && allInRange lows highs (assignmentList file at state)
 
 unfoldable pub successorOf : List ℕ → ℕ → List ℤ → List ℤ
-successorOf file at state = assigned (assignmentsOf file at state) state
+successorOf file at state = assigned (assignmentList file at state) state
 
 -- ---- what the code answers: where there is no successor, `next` is the state as it was
 unfoldable pub assignOf : List ℤ → List ℤ → List Assignment → List ℤ → Assigned

@@ -24,11 +24,11 @@ abbrev pub partAt : List ℕ → ℕ → List ℕ
 partAt file at = drop (8 * at) file
 
 -- "Expressions stand in prefix order": the first operand begins behind the record, the second behind the first
-unfoldable pub first : List ℕ → List ℕ
-first part = partAt part 1
+unfoldable pub firstOperand : List ℕ → List ℕ
+firstOperand part = partAt part 1
 
-unfoldable pub second : ℕ → List ℕ → List ℕ
-second levels part = partAt part (1 + span levels (first part))
+unfoldable pub secondOperand : ℕ → List ℕ → List ℕ
+secondOperand levels part = partAt part (1 + span levels (firstOperand part))
 
 -- ---- one record. What its operands are worth is combined by its kind (12 sum, 13 difference, 14 product: `combine`)
 -- "15 indicator, a truth follows, worth 1 if true, else 0"
@@ -47,8 +47,8 @@ compareOf kind x y = cond (eqb kind 0x27) (eqZ x y) (cond (eqb kind 0x28) (ltZ x
 unfoldable pub numberBy : ℕ → (List ℕ → ℤ) → (List ℕ → Bool) → Form → List ℕ → List ℤ → ℤ
 numberBy levels N T Constant part state = valueB part 0
 numberBy levels N T Variable part state = getD state (fieldA part 0) (pos 0)
-numberBy levels N T Arithmetic part state = combine (kindAt part 0) (N (first part)) (N (second levels part))
-numberBy levels N T Indicator part state = indicatorOf (T (first part))
+numberBy levels N T Arithmetic part state = combine (kindAt part 0) (N (firstOperand part)) (N (secondOperand levels part))
+numberBy levels N T Indicator part state = indicatorOf (T (firstOperand part))
 numberBy levels N T Literal part state = pos 0
 numberBy levels N T Negation part state = pos 0
 numberBy levels N T Connective part state = pos 0
@@ -58,9 +58,9 @@ numberBy levels N T Unfit part state = pos 0
 -- and the truth: "20 true, 21 false, 22 not"
 unfoldable pub truthBy : ℕ → (List ℕ → ℤ) → (List ℕ → Bool) → Form → List ℕ → Bool
 truthBy levels N T Literal part = eqb (kindAt part 0) 0x20
-truthBy levels N T Negation part = not (T (first part))
-truthBy levels N T Connective part = connectOf (kindAt part 0) (T (first part)) (T (second levels part))
-truthBy levels N T Comparison part = compareOf (kindAt part 0) (N (first part)) (N (second levels part))
+truthBy levels N T Negation part = not (T (firstOperand part))
+truthBy levels N T Connective part = connectOf (kindAt part 0) (T (firstOperand part)) (T (secondOperand levels part))
+truthBy levels N T Comparison part = compareOf (kindAt part 0) (N (firstOperand part)) (N (secondOperand levels part))
 truthBy levels N T Constant part = false
 truthBy levels N T Variable part = false
 truthBy levels N T Arithmetic part = false
@@ -91,8 +91,8 @@ pub record RecordFits (want : ℕ) (part : List ℕ) : Type 0 where
 -- as many operands as the kind says, where F says of an operand's part that it fits
 unfoldable pub OperandsFit : (List ℕ → Type 0) → ℕ → List ℕ → ℕ → Type 0
 OperandsFit F levels part zero = Unit {0}
-OperandsFit F levels part (suc zero) = F (first part)
-OperandsFit F levels part (suc (suc n)) = F (first part) × F (second levels part)
+OperandsFit F levels part (suc zero) = F (firstOperand part)
+OperandsFit F levels part (suc (suc n)) = F (firstOperand part) × F (secondOperand levels part)
 
 unfoldable pub Fits : ℕ → ℕ → List ℕ → List ℤ → Type 0
 Fits zero want part state = ⊥

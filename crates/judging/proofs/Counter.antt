@@ -13,7 +13,7 @@ use Rattle.reading.specs.Read.{readOf}
 use Rattle.reading.proofs.Files.{B, D, H}
 use Rattle.testing.specs.Diagram.{startHolds, pHolds, qHolds}
 use Rattle.testing.specs.Holding.{guardHolds, valuesFit, nextState}
-use Rattle.verdicts.specs.Verdict.{statesOf, stateAt, checkOf}
+use Rattle.verdicts.specs.Verdict.{stateCount, stateAt, checkOf}
 
 -- the state where v is n
 abbrev pub v : ℕ → List ℤ
@@ -24,7 +24,7 @@ pub record Counter (file : List ℕ) (o : Outline) : Type 0 where
   pub readable : readOf file ≡ Reading.Readable o
   pub accepted : checkOf file 32 .number ≡ 0
   pub transitions : o .transitions ≡ 1
-  pub states : (statesOf file o ≡ 3) × (stateAt file o 0 ≡ v 0) × (stateAt file o 1 ≡ v 1) × (stateAt file o 2 ≡ v 2)
+  pub states : (stateCount file o ≡ 3) × (stateAt file o 0 ≡ v 0) × (stateAt file o 1 ≡ v 1) × (stateAt file o 2 ≡ v 2)
   pub zero-on : ((guardHolds file o 0 (v 0) && valuesFit file o 0 (v 0)) ≡ true) × (v 1 ≡ nextState file o 0 (v 0))
   pub one-on : ((guardHolds file o 0 (v 1) && valuesFit file o 0 (v 1)) ≡ true) × (v 2 ≡ nextState file o 0 (v 1))
   pub two-off : (guardHolds file o 0 (v 2) && valuesFit file o 0 (v 2)) ≡ false

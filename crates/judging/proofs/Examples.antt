@@ -153,24 +153,24 @@ unfolding flatten Bytes.signed16 Bytes.lowByte Bytes.highByte Ends.minZ Ends.max
     Section.variablesOf Section.assignmentsOf Section.transitionOf Section.transitionsOf Section.expressionsOf Section.phasesOr
     Section.nodesOf Section.repeatedOf Section.edgesOf Place.tabulate
     Outline.edgesParsed Outline.nodesParsed Outline.propertyParsed Outline.transitionsParsed Outline.startParsed Outline.parsedOf
-    Search.any Search.refuseFirst States.sizeOf States.statesOf
+    Search.any Search.refuseFirst States.sizeAt States.statesOf
     Interval.leafOf Interval.combine Interval.joinOf Interval.ownOf Interval.byOperands Interval.analysisOf Interval.analysedFrom Interval.intervalsOf
     Edge.descending Edge.transitionAt Edge.justOf Edge.conflictOf Edge.chainRuleOf Edge.ruleOf Edge.rulesOf
     Edge.doubleFrom Edge.doubledOf Edge.doublesOf
     Read.stagesRead Read.parsedRead Read.readOf
-    Expression.first Expression.second Expression.indicatorOf Expression.connectOf Expression.compareOf
+    Expression.firstOperand Expression.secondOperand Expression.indicatorOf Expression.connectOf Expression.compareOf
     Expression.numberBy Expression.truthBy Expression.number Expression.truth Expression.holdsOf
     State.endsOf Number.sizeOf Number.countOf Number.stateOf
     Expression.behind Transition.assignmentAt Transition.assignmentsFrom Transition.inRangeOf Transition.allInRange Transition.assigned
-    Transition.guardOf Transition.assignmentsOf Transition.enabledOf Transition.successorOf
-    First.firstFrom First.first
+    Transition.guardOf Transition.assignmentList Transition.enabledOf Transition.successorOf
+    First.firstFailingFrom First.firstFailing
     Diagram.startHolds Diagram.nodeAt Diagram.nodeHolds Diagram.claimedAt Diagram.pHolds Diagram.qAt Diagram.qHolds Edges.carries Edges.isDouble
     Condition.each Condition.movesOf Condition.conditionsFrom Condition.conditionsOf Condition.totalOf Condition.conditionAt
     Condition.refusalNumber Condition.nodeNumber Condition.transitionNumber
     Truth.implies Holding.guardHolds Holding.valuesFit Holding.isEnabled Holding.nextState
     Holding.someNode Holding.someTarget Holding.conditionHolds
-    Verdict.statesOf Verdict.stateAt Verdict.unnamedOf Verdict.namedOf Verdict.breakingOf Verdict.isTrue Verdict.brokenOf Verdict.judgedOf
-    Verdict.verdictBy Verdict.checkOf Verdict.testedOf Verdict.singleBy Verdict.singleOf
+    Verdict.stateCount Verdict.stateAt Verdict.unnamedOf Verdict.namedOf Verdict.breakingOf Verdict.isTrue Verdict.brokenOf Verdict.judgedOf
+    Verdict.verdictBy Verdict.checkOf Verdict.singleJudged Verdict.singleBy Verdict.singleOf
     Report.valueBytes Report.reportBytes Report.reportOf
 columns = (
   refl,

@@ -17,8 +17,8 @@ use Rattle.parsing.specs.declared.Outline.{Outline}
 use Rattle.states.specs.State.{State}
 use Rattle.evaluating.proofs.Laws.Readable as readable
 use Rattle.testing.specs.Diagram.{startHolds, pHolds, qHolds}
-use Rattle.verdicts.specs.Verdict.{statesOf, stateAt, checkOf}
-use Rattle.runs.specs.Run.{Run, finite, endless, Position, at, Step, IsRun, DisabledOrTaken, Just, KJust}
+use Rattle.verdicts.specs.Verdict.{stateCount, stateAt, checkOf}
+use Rattle.runs.specs.Run.{Run, finite, endless, Position, at, Next, IsRun, DisabledOrTaken, Just, KJust}
 use Rattle.runs.specs.Claim.{Waiting}
 use Rattle.soundness.specs.System.{systemOf}
 use Rattle.runs.proofs.Laws.Truth.{so-true}
@@ -51,7 +51,7 @@ not-of {b} e = subst (λ (x : Bool). T (not x)) (sym e) tt
 
 module _ (file : List ℕ) (o : Outline) (c : Counter file o) where
   is-state : (n : ℕ) → n < 3 → (s : List ℤ) → stateAt file o n ≡ s → State file (o .vars) s
-  unfolding stateAt statesOf
+  unfolding stateAt stateCount
   is-state n l s e = subst (State file (o .vars)) e (readable.numbered file o (c .readable) n (rw (c .states .0) l) .0)
 
   zero-state : State file (o .vars) (v 0)
@@ -63,10 +63,10 @@ module _ (file : List ℕ) (o : Outline) (c : Counter file o) where
   two-state : State file (o .vars) (v 2)
   two-state = is-state 2 (omega arith) (v 2) (c .states .3)
 
-  first-move : Step (systemOf file o) (v 0) (v 1)
+  first-move : Next (systemOf file o) (v 0) (v 1)
   first-move = inr (0, rw (c .transitions) (omega arith), (so-true _ (c .zero-on .0), c .zero-on .1))
 
-  second-move : Step (systemOf file o) (v 1) (v 2)
+  second-move : Next (systemOf file o) (v 1) (v 2)
   second-move = inr (0, rw (c .transitions) (omega arith), (so-true _ (c .one-on .0), c .one-on .1))
 
   σ-run : IsRun (systemOf file o) (endless σ)
@@ -80,7 +80,7 @@ module _ (file : List ℕ) (o : Outline) (c : Counter file o) where
       states (suc (suc (suc zero))) p = one-state
       states (suc (suc (suc (suc n)))) p = two-state
 
-      steps : (n : ℕ) → Position (endless σ) (suc n) → Step (systemOf file o) (σ n) (σ (suc n))
+      steps : (n : ℕ) → Position (endless σ) (suc n) → Next (systemOf file o) (σ n) (σ (suc n))
       steps zero p = inl refl
       steps (suc zero) p = first-move
       steps (suc (suc zero)) p = inl refl
@@ -98,7 +98,7 @@ module _ (file : List ℕ) (o : Outline) (c : Counter file o) where
       states (suc (suc (suc (suc zero)))) p = two-state
       states (suc (suc (suc (suc (suc n))))) p = absurd (omega arith)
 
-      steps : (n : ℕ) → Position listed (suc n) → Step (systemOf file o) (at listed n) (at listed (suc n))
+      steps : (n : ℕ) → Position listed (suc n) → Next (systemOf file o) (at listed n) (at listed (suc n))
       steps zero p = inl refl
       steps (suc zero) p = first-move
       steps (suc (suc zero)) p = inl refl

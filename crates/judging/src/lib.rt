@@ -22,7 +22,7 @@ ghost use mathlib.Core.Path.{_≡_};
 ghost use lib.ListN.{length};
 ghost use Rattle.reading.specs.declared.Reading.{Reading};
 ghost use Rattle.reading.specs.Read.{readOf};
-ghost use Rattle.verdicts.specs.Verdict.{checkOf, testedOf, singleOf};
+ghost use Rattle.verdicts.specs.Verdict.{checkOf, singleJudged, singleOf};
 ghost use Rattle.report.specs.Report.{reportOf};
 ghost use Rattle.soundness.specs.System.{Claim};
 
@@ -44,7 +44,7 @@ pub fn check(file: &[u8], report: &mut [u8]) -> Verdict
 // The single test of a readable file.
 fn tested(file: &[u8], outline: Outline, condition: usize, state: usize) -> Single
     requires { ⌜ readOf (now file) ≡ Reading.Readable outline ⌝ }
-    ensures { λ r. ⌜ r ≡ testedOf (now (file .entry)) outline condition state ⌝ }
+    ensures { λ r. ⌜ r ≡ singleJudged (now (file .entry)) outline condition state ⌝ }
 {
     if total(file, outline) <= condition {
         return Single::Refused(11, 0);

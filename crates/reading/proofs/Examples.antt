@@ -148,7 +148,7 @@ unfolding flatten Bytes.signed16 Ends.minZ Ends.maxZ Ends.around Ends.overEnds E
     Section.variablesOf Section.assignmentsOf Section.transitionOf Section.transitionsOf Section.expressionsOf Section.phasesOr
     Section.nodesOf Section.repeatedOf Section.edgesOf
     Outline.edgesParsed Outline.nodesParsed Outline.propertyParsed Outline.transitionsParsed Outline.startParsed Outline.parsedOf
-    Search.any Search.refuseFirst States.sizeOf States.statesOf
+    Search.any Search.refuseFirst States.sizeAt States.statesOf
     Interval.leafOf Interval.combine Interval.joinOf Interval.ownOf Interval.byOperands Interval.analysisOf Interval.analysedFrom Interval.intervalsOf
     Edge.descending Edge.transitionAt Edge.justOf Edge.conflictOf Edge.chainRuleOf Edge.ruleOf Edge.rulesOf Edge.doubleFrom Edge.doubledOf Edge.doublesOf
     Read.stagesRead Read.parsedRead Read.readOf

@@ -11,7 +11,7 @@ use Rattle.records.specs.Walk.{inSequence}
 use Rattle.records.specs.Record.{fieldA, fieldB, fieldC, fieldD}
 use Rattle.sections.specs.Section.{transitionOf}
 use Rattle.records.specs.Place.{placeOf, placesOf}
-use Rattle.reading.specs.States.{Ranges}
+use Rattle.reading.specs.States.{VariablesFit}
 use Rattle.records.specs.Search.{any, refuseFirst}
 
 -- an edge: a transition, b from, c to, d = 0 single, 1 double
@@ -73,9 +73,9 @@ doublesOf file o = cond (eqb (diagram file o) 3) (refuseFirst 10 (doubledOf file
 
 -- ---- what the code asks
 -- the outline stays within the file, its counts within their limits, and its edges name its transitions
-pub record Fits (file : List ℕ) (o : Outline) : Type 0 where
+pub record OutlineFits (file : List ℕ) (o : Outline) : Type 0 where
   pub vars-most : o .vars ≤ 12
-  pub ranges : Ranges file (o .vars)
+  pub ranges : VariablesFit file (o .vars)
   pub transition-here : o .transition ≤ length file / 8
   pub transitions-most : o .transitions ≤ 32
   pub property-here : 8 * o .property + 8 ≤ length file
@@ -85,7 +85,7 @@ pub record Fits (file : List ℕ) (o : Outline) : Type 0 where
 
 -- an edge's record at `at`, and the places of the transitions
 pub record EdgeFits (file : List ℕ) (o : Outline) (places : List ℕ) (at : ℕ) : Type 0 where
-  pub outline : Fits file o
+  pub outline : OutlineFits file o
   pub found : places ≡ placesOf (transitionOf file (o .vars)) (o .transitions) (o .transition)
   pub here : 8 * at + 8 ≤ length file
   pub behind : o .edge ≤ at

@@ -48,7 +48,7 @@ pub record Transition (file : List ℕ) (o : Outline) (t : ℕ) : Type 0 where
 
 -- ---- the property's expressions and the nodes
 -- expression i of the property: it stands at `place`, behind i others
-pub record Claimed (file : List ℕ) (o : Outline) (i : ℕ) : Type 0 where
+pub record PropertyExpression (file : List ℕ) (o : Outline) (i : ℕ) : Type 0 where
   pub place : ℕ
   pub end : ℕ
   pub reached : inSequence (truthOf file (o .vars)) i (o .property + 1) ≡ Walked.End place

@@ -10,21 +10,21 @@ use Rattle.records.specs.declared.walk.Walked.{Walked}
 use Rattle.records.specs.Record.{valueB, valueC}
 
 -- how many values the variable at record `at` has: those of its range b..c
-unfoldable pub sizeOf : List ℕ → ℕ → ℕ
-sizeOf file at = offsetOf (valueB file at) (valueC file at) + 1
+unfoldable pub sizeAt : List ℕ → ℕ → ℕ
+sizeAt file at = offsetOf (valueB file at) (valueC file at) + 1
 
 -- the product of the sizes of the n variables from `at` on
 unfoldable pub productOf : List ℕ → ℕ → ℕ → ℕ
 productOf file zero at = 1
-productOf file (suc n) at = sizeOf file at * productOf file n (at + 1)
+productOf file (suc n) at = sizeAt file at * productOf file n (at + 1)
 
 -- the same, built up by variable: `product` times the sizes of the `left` variables from `at` on
 unfoldable pub statesOf : List ℕ → ℕ → ℕ → ℕ → Walked
 statesOf file zero at product = Walked.End product
 statesOf file (suc left) at product =
-    cond (leb (product * sizeOf file at) 1048576) (statesOf file left (at + 1) (product * sizeOf file at)) (Walked.Refused 7 at)
+    cond (leb (product * sizeAt file at) 1048576) (statesOf file left (at + 1) (product * sizeAt file at)) (Walked.Refused 7 at)
 
 -- the records of the variables are there, and no range is empty
-pub record Ranges (file : List ℕ) (vars : ℕ) : Type 0 where
+pub record VariablesFit (file : List ℕ) (vars : ℕ) : Type 0 where
   pub here : 8 * vars ≤ length file
   pub ordered : (v : ℕ) → v < vars → valueB file v ≤ℤ valueC file v

@@ -10,7 +10,7 @@ ghost use lib.ListN.{length};
 ghost use Rattle.sections.specs.Section.{transitionOf};
 ghost use Rattle.records.specs.Place.{placesOf};
 ghost use Rattle.records.specs.Search.{any};
-ghost use Rattle.reading.specs.Edge.{descending, conflictOf, justOf, chainRuleOf, ruleOf, rulesOf, doubleFrom, doubledOf, doublesOf, Fits, EdgeFits};
+ghost use Rattle.reading.specs.Edge.{descending, conflictOf, justOf, chainRuleOf, ruleOf, rulesOf, doubleFrom, doubledOf, doublesOf, OutlineFits, EdgeFits};
 
 // Whether two edges conflict: from one node, either of one transition, single and double, or both double.
 fn conflict(file: &[u8], i: usize, j: usize) -> bool
@@ -50,7 +50,7 @@ fn conflicts(file: &[u8], at: usize, first: usize, n: usize) -> bool
 
 // Whether transition t is just, where `places` has the transitions' records.
 fn just(file: &[u8], outline: Outline, places: [usize; 32], t: usize) -> bool
-    requires outline { ⌜ Fits (now file) outline ⌝ }
+    requires outline { ⌜ OutlineFits (now file) outline ⌝ }
     requires found { ⌜ places ≡ placesOf (transitionOf (now file) (outline .vars)) (outline .transitions) (outline .transition) ⌝ }
     requires there { ⌜ t < outline .transitions ⌝ }
     ensures { λ r. ⌜ r ≡ justOf (now (file .entry)) outline t ⌝ }
@@ -111,7 +111,7 @@ fn rule(file: &[u8], outline: Outline, places: [usize; 32], at: usize) -> bool
 
 // Refusal 9 at the first edge that breaks a rule.
 pub(crate) fn rules(file: &[u8], outline: Outline) -> Walked
-    requires { ⌜ Fits (now file) outline ⌝ }
+    requires { ⌜ OutlineFits (now file) outline ⌝ }
     ensures { λ r. ⌜ r ≡ rulesOf (now (file .entry)) outline ⌝ }
 {
     let places = transition_places(file, outline.vars, outline.transitions, outline.transition);
@@ -140,7 +140,7 @@ pub fn double_from(file: &[u8], at: usize, node: usize) -> bool
 
 // Whether a double edge goes from the node.
 fn doubled(file: &[u8], outline: Outline, node: usize) -> bool
-    requires { ⌜ Fits (now file) outline ⌝ }
+    requires { ⌜ OutlineFits (now file) outline ⌝ }
     ensures { λ r. ⌜ r ≡ doubledOf (now (file .entry)) outline node ⌝ }
 {
     let mut left = outline.edges;
@@ -157,7 +157,7 @@ fn doubled(file: &[u8], outline: Outline, node: usize) -> bool
 
 // Refusal 10 at the lowest node of a chain, from 1 up, without a double edge.
 pub(crate) fn doubles(file: &[u8], outline: Outline) -> Walked
-    requires { ⌜ Fits (now file) outline ⌝ }
+    requires { ⌜ OutlineFits (now file) outline ⌝ }
     ensures { λ r. ⌜ r ≡ doublesOf (now (file .entry)) outline ⌝ }
 {
     let property = outline.property;

@@ -4,7 +4,7 @@ use parsing::Parsed;
 use parsing::parse;
 use records::walk::Walked;
 ghost use mathlib.Core.Path.{_≡_};
-ghost use Rattle.reading.specs.Edge.{Fits};
+ghost use Rattle.reading.specs.Edge.{OutlineFits};
 ghost use Rattle.reading.specs.Read.{stagesRead, readOf};
 
 pub mod edges;
@@ -18,7 +18,7 @@ pub enum Reading {
 
 // The refusals 7 to 10 of a file that parses, in their order, or its outline.
 fn read_parsed(file: &[u8], outline: Outline) -> Reading
-    requires { ⌜ Fits (now file) outline ⌝ }
+    requires { ⌜ OutlineFits (now file) outline ⌝ }
     ensures { λ r. ⌜ r ≡ stagesRead (now (file .entry)) outline ⌝ }
 {
     let states = states::states(file, outline.vars);

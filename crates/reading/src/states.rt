@@ -6,13 +6,13 @@ ghost use Prim.Native.Nat.{_+_, _*_, _≤_};
 ghost use lib.ListN.{length};
 ghost use lib.Signed.{_≤ℤ_};
 ghost use Rattle.records.specs.Record.{valueB, valueC};
-ghost use Rattle.reading.specs.States.{sizeOf, statesOf, Ranges};
+ghost use Rattle.reading.specs.States.{sizeAt, statesOf, VariablesFit};
 
 // How many values the variable at record `at` has.
 fn range_size(file: &[u8], at: usize) -> usize
     requires record { ⌜ 8 * at + 8 ≤ length (now file) ⌝ }
     requires range { ⌜ valueB (now file) at ≤ℤ valueC (now file) at ⌝ }
-    ensures { λ r. ⌜ (r ≡ sizeOf (now (file .entry)) at) × (r ≤ 65536) ⌝ }
+    ensures { λ r. ⌜ (r ≡ sizeAt (now (file .entry)) at) × (r ≤ 65536) ⌝ }
 {
     let low = value_at(file, 8 * at + 2);
     let high = value_at(file, 8 * at + 4);
@@ -21,7 +21,7 @@ fn range_size(file: &[u8], at: usize) -> usize
 
 // How many states the file has, or refusal 7 at the variable where they pass the limit.
 pub fn states(file: &[u8], vars: usize) -> Walked
-    requires { ⌜ Ranges (now file) vars ⌝ }
+    requires { ⌜ VariablesFit (now file) vars ⌝ }
     ensures { λ r. ⌜ r ≡ statesOf (now (file .entry)) vars 0 1 ⌝ }
 {
     let mut left = vars;

@@ -8,7 +8,7 @@ use Rattle.records.specs.Record.{fieldC}
 use Rattle.records.specs.Search.{any}
 use Rattle.reading.specs.Edge.{transitionAt}
 use Rattle.states.specs.State.{lowsOf, highsOf}
-use Rattle.evaluating.specs.Transition.{guardOf, assignmentsOf, allInRange, enabledOf, successorOf}
+use Rattle.evaluating.specs.Transition.{guardOf, assignmentList, allInRange, enabledOf, successorOf}
 use Rattle.conditions.specs.Edges.{carries, isDouble}
 use Rattle.testing.specs.Diagram.{startHolds, nodeHolds, pHolds, qHolds}
 use Rattle.conditions.specs.declared.Condition.{Condition}
@@ -21,7 +21,7 @@ guardHolds file o t state = guardOf file (transitionAt file o t) state
 
 -- "all values in range"
 unfoldable pub valuesFit : List ℕ → Outline → ℕ → List ℤ → Bool
-valuesFit file o t state = allInRange (lowsOf file (o .vars)) (highsOf file (o .vars)) (assignmentsOf file (transitionAt file o t) state)
+valuesFit file o t state = allInRange (lowsOf file (o .vars)) (highsOf file (o .vars)) (assignmentList file (transitionAt file o t) state)
 
 unfoldable pub isEnabled : List ℕ → Outline → ℕ → List ℤ → Bool
 isEnabled file o t state = enabledOf (lowsOf file (o .vars)) (highsOf file (o .vars)) file (transitionAt file o t) state

@@ -46,11 +46,11 @@ unfoldable pub chosenOf : List Bool → List ℕ → ℕ → Targets
 chosenOf marks nodes n = targetsOf (chosenFrom marks nodes n 0)
 
 -- where the nodes and the transitions stand
-unfoldable pub nodesOf : List ℕ → Outline → List ℕ
-nodesOf file o = placesOf (nodeOf file (o .vars)) (o .nodes) (o .node)
+unfoldable pub nodePlaces : List ℕ → Outline → List ℕ
+nodePlaces file o = placesOf (nodeOf file (o .vars)) (o .nodes) (o .node)
 
-unfoldable pub transitionsOf : List ℕ → Outline → List ℕ
-transitionsOf file o = placesOf (transitionOf file (o .vars)) (o .transitions) (o .transition)
+unfoldable pub transitionPlaces : List ℕ → Outline → List ℕ
+transitionPlaces file o = placesOf (transitionOf file (o .vars)) (o .transitions) (o .transition)
 
 -- ---- the test of a condition
 unfoldable pub preparedOf : ℕ → Conclusion → ℕ → Targets → Test
@@ -58,13 +58,13 @@ preparedOf premise conclusion transition targets =
     record { premise = premise; conclusion = conclusion; transition = transition; targets = targets .places; count = targets .count }
 
 unfoldable pub testOf : List ℕ → Outline → Condition → Test
-testOf file o Start = preparedOf (o .vars + 1) Conclusion.SomeTarget 0 (chosenOf (replicate 32 true) (nodesOf file o) (o .nodes))
-testOf file o Entry = preparedOf (claimedAt file o 0) Conclusion.SomeTarget 0 (chosenOf (replicate 32 true) (nodesOf file o) (o .nodes))
+testOf file o Start = preparedOf (o .vars + 1) Conclusion.SomeTarget 0 (chosenOf (replicate 32 true) (nodePlaces file o) (o .nodes))
+testOf file o Entry = preparedOf (claimedAt file o 0) Conclusion.SomeTarget 0 (chosenOf (replicate 32 true) (nodePlaces file o) (o .nodes))
 testOf file o (Cover n) = preparedOf (nodeAt file o n + 1) Conclusion.SomeTarget 0 (targetsOf (qAt file o n ∷ []))
-testOf file o (Range n t) = preparedOf (nodeAt file o n + 1) Conclusion.InRange (transitionAt file o t) (targetsOf [])
+testOf file o (Range n t) = preparedOf (nodeAt file o n + 1) Conclusion.ValuesInRange (transitionAt file o t) (targetsOf [])
 testOf file o (Step n t) =
     preparedOf (nodeAt file o n + 1) Conclusion.Reached (transitionAt file o t)
-    (chosenOf (marksOf file o n t (not (isDouble file o n t))) (nodesOf file o) (o .nodes))
+    (chosenOf (marksOf file o n t (not (isDouble file o n t))) (nodePlaces file o) (o .nodes))
 testOf file o (Enabling n t) = preparedOf (nodeAt file o n + 1) Conclusion.Enabled (transitionAt file o t) (targetsOf [])
 
 -- one of the truths at the places listed holds
@@ -78,7 +78,7 @@ targetsListed test = take (test .count) (test .targets)
 -- what the premise must imply
 unfoldable pub concludesOf : List ℤ → List ℤ → List ℕ → Test → Conclusion → List ℤ → Bool
 concludesOf lows highs file test Conclusion.SomeTarget state = someHolds file (targetsListed test) state
-concludesOf lows highs file test Conclusion.InRange state =
+concludesOf lows highs file test Conclusion.ValuesInRange state =
     implies (guardOf file (test .transition) state) (enabledOf lows highs file (test .transition) state)
 concludesOf lows highs file test Conclusion.Reached state =
     implies (enabledOf lows highs file (test .transition) state) (someHolds file (targetsListed test) (successorOf file (test .transition) state))

@@ -20,14 +20,14 @@ ghost use Rattle.states.specs.State.{Within};
 ghost use Rattle.conditions.specs.Edges.{carries};
 ghost use Rattle.testing.specs.Diagram.{claimedAt, qAt};
 ghost use Rattle.conditions.specs.Condition.{Listed};
-ghost use Rattle.testing.specs.Testing.{marksOf, targetsOf, chosenOf, nodesOf, transitionsOf, preparedOf, testOf};
+ghost use Rattle.testing.specs.Testing.{marksOf, targetsOf, chosenOf, nodePlaces, transitionPlaces, preparedOf, testOf};
 ghost use Rattle.testing.specs.Testing.{someHolds, concludesOf, passesOf, TestFits};
 
 // What a condition's premise must imply: that one of the targets is true; that a true guard goes with values in range; that a step leads to one of
 // the targets; that the transition is enabled.
 pub enum Conclusion {
     SomeTarget,
-    InRange,
+    ValuesInRange,
     Reached,
     Enabled,
 }
@@ -163,8 +163,8 @@ pub fn test_of(
     condition: Condition,
 ) -> Test
     requires readable { ⌜ readOf (now file) ≡ Reading.Readable outline ⌝ }
-    requires nodes { ⌜ nodes ≡ nodesOf (now file) outline ⌝ }
-    requires transitions { ⌜ transitions ≡ transitionsOf (now file) outline ⌝ }
+    requires nodes { ⌜ nodes ≡ nodePlaces (now file) outline ⌝ }
+    requires transitions { ⌜ transitions ≡ transitionPlaces (now file) outline ⌝ }
     requires listed { ⌜ Listed (now file) outline condition ⌝ }
     ensures { λ r. ⌜ r ≡ testOf (now (file .entry)) outline condition ⌝ }
 {
@@ -183,7 +183,7 @@ pub fn test_of(
         }
         Condition::Range(n, t) => {
             let place = transitions[t];
-            prepared(nodes[n] + 1, Conclusion::InRange, place, none())
+            prepared(nodes[n] + 1, Conclusion::ValuesInRange, place, none())
         }
         Condition::Step(n, t) => {
             let place = transitions[t];
@@ -241,7 +241,7 @@ pub fn concludes(
     let conclusion = test.conclusion;
     match conclusion {
         Conclusion::SomeTarget => some_holds(file, spans, targets, test.count, state),
-        Conclusion::InRange => {
+        Conclusion::ValuesInRange => {
             let s = step(file, spans, test.transition, low, high, state);
             !s.guard | s.enabled
         }

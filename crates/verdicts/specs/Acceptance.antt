@@ -24,9 +24,9 @@ use Rattle.conditions.specs.Condition.{each, movesOf, totalOf, conditionAt}
 use Rattle.runs.specs.Truth.{implies}
 use Rattle.testing.specs.Holding.{conditionHolds}
 use Rattle.conditions.specs.Layout.{openingOf, layoutOf}
-use Rattle.testing.specs.Testing.{nodesOf, transitionsOf}
-use Rattle.conditions.specs.Search.{first}
-use Rattle.verdicts.specs.Verdict.{statesOf, stateAt, isTrue}
+use Rattle.testing.specs.Testing.{nodePlaces, transitionPlaces}
+use Rattle.conditions.specs.Search.{firstFailing}
+use Rattle.verdicts.specs.Verdict.{stateCount, stateAt, isTrue}
 use Rattle.verdicts.specs.declared.acceptance.Found.{Found}
 use Rattle.conditions.specs.declared.Blocks.{Blocks}
 use Rattle.conditions.specs.declared.Condition.{Condition}
@@ -54,18 +54,18 @@ blockHolds file o i state = allHold file o (blockOf file o i) state
 
 -- how many of the first `most` blocks hold at a state, up to the first that does not
 unfoldable pub heldBlocksOf : List ℕ → Outline → ℕ → List ℤ → ℕ
-heldBlocksOf file o most state = first (λ i. blockHolds file o i state) most
+heldBlocksOf file o most state = firstFailing (λ i. blockHolds file o i state) most
 
 -- how many blocks are true, up to the first that is not: they hold at every state
 unfoldable pub trueBlocksOf : List ℕ → Outline → ℕ
 trueBlocksOf file o =
-    first (λ i. every (λ n. blockHolds file o i (stateAt file o n)) (statesOf file o) 0) (1 + (o .nodes - layoutOf file o .from))
+    firstFailing (λ i. every (λ n. blockHolds file o i (stateAt file o n)) (stateCount file o) 0) (1 + (o .nodes - layoutOf file o .from))
 
 -- how many states the first untrue block holds at, up to the first that breaks it; none where every block is true
 unfoldable pub heldStatesOf : List ℕ → Outline → ℕ
 heldStatesOf file o =
     cond (ltb (trueBlocksOf file o) (1 + (o .nodes - layoutOf file o .from)))
-    (first (λ n. blockHolds file o (trueBlocksOf file o) (stateAt file o n)) (statesOf file o)) 0
+    (firstFailing (λ n. blockHolds file o (trueBlocksOf file o) (stateAt file o n)) (stateCount file o)) 0
 
 unfoldable pub foundOf : List ℕ → Outline → Found
 foundOf file o = record { blocks = trueBlocksOf file o; states = heldStatesOf file o }
@@ -150,8 +150,8 @@ pub record LookedUp (file : List ℕ) (o : Outline) (spans : List ℕ) (low high
   pub spans-are : Spans file spans
   pub low-is : low ≡ lowsOf file (o .vars)
   pub high-is : high ≡ highsOf file (o .vars)
-  pub nodes-are : nodes ≡ nodesOf file o
-  pub transitions-are : transitions ≡ transitionsOf file o
+  pub nodes-are : nodes ≡ nodePlaces file o
+  pub transitions-are : transitions ≡ transitionPlaces file o
 
 -- and before the pass
 pub record Tables (file : List ℕ) (o : Outline) (blocks : Blocks) (premise : ℕ) (places : List ℕ) (marks doubles : List Bool) : Type 0 where
@@ -169,5 +169,5 @@ pub record Searched (file : List ℕ) (o : Outline) (number : ℕ) : Type 0 wher
 -- and those before `end` hold in the first `from` states
 pub record Begun (file : List ℕ) (o : Outline) (sure end from : ℕ) : Type 0 where
   pub searched : Searched file o sure
-  pub below : from < statesOf file o
+  pub below : from < stateCount file o
   pub each : (k n : ℕ) → k < end → k < totalOf file o → n < from → conditionHolds file o (conditionAt file o k) (stateAt file o n) ≡ true

@@ -10,7 +10,7 @@ use Rattle.reading.specs.declared.Reading.{Reading}
 use Rattle.reading.specs.Read.{readOf}
 use Rattle.states.specs.State.{lowsOf, highsOf}
 use Rattle.states.specs.Number.{countOf, stateOf}
-use Rattle.conditions.specs.Search.{first}
+use Rattle.conditions.specs.Search.{firstFailing}
 use Rattle.conditions.specs.Condition.{totalOf, conditionAt, refusalNumber, nodeNumber, transitionNumber}
 use Rattle.testing.specs.Holding.{conditionHolds}
 use Rattle.conditions.specs.declared.Condition.{Condition}
@@ -18,8 +18,8 @@ use Rattle.report.specs.declared.Verdict.{Verdict}
 use Rattle.verdicts.specs.declared.Single.{Single}
 
 -- ---- states by number
-unfoldable pub statesOf : List ℕ → Outline → ℕ
-statesOf file o = countOf (lowsOf file (o .vars)) (highsOf file (o .vars))
+unfoldable pub stateCount : List ℕ → Outline → ℕ
+stateCount file o = countOf (lowsOf file (o .vars)) (highsOf file (o .vars))
 
 unfoldable pub stateAt : List ℕ → Outline → ℕ → List ℤ
 stateAt file o n = stateOf (lowsOf file (o .vars)) (highsOf file (o .vars)) n
@@ -36,15 +36,15 @@ namedOf c number state =
 
 -- the lowest state that breaks a condition, by its number, or how many states there are
 unfoldable pub breakingOf : List ℕ → Outline → Condition → ℕ
-breakingOf file o c = first (λ n. conditionHolds file o c (stateAt file o n)) (statesOf file o)
+breakingOf file o c = firstFailing (λ n. conditionHolds file o c (stateAt file o n)) (stateCount file o)
 
 -- no state breaks it: it "is true at every state in the ranges"
 unfoldable pub isTrue : List ℕ → Outline → Condition → Bool
-isTrue file o c = leb (statesOf file o) (breakingOf file o c)
+isTrue file o c = leb (stateCount file o) (breakingOf file o c)
 
 -- "If conditions are broken, the lowest is given": the lowest broken condition, by its number, or the total
 unfoldable pub brokenOf : List ℕ → Outline → ℕ
-brokenOf file o = first (λ c. isTrue file o (conditionAt file o c)) (totalOf file o)
+brokenOf file o = firstFailing (λ c. isTrue file o (conditionAt file o c)) (totalOf file o)
 
 -- of a readable file: "the first untrue condition is named with a state that breaks it", or "for 0 the total"
 unfoldable pub judgedOf : List ℕ → Outline → Verdict
@@ -62,14 +62,14 @@ unfoldable pub checkOf : List ℕ → ℕ → Verdict
 checkOf file room = cond (ltb room 32) (unnamedOf 1 0) (verdictBy file (readOf file))
 
 -- ---- the single test: "one of the refusals tried from 2 through 12, else holds or fails"
-unfoldable pub testedOf : List ℕ → Outline → ℕ → ℕ → Single
-testedOf file o condition state =
+unfoldable pub singleJudged : List ℕ → Outline → ℕ → ℕ → Single
+singleJudged file o condition state =
     cond (leb (totalOf file o) condition) (Single.Refused 11 0)
-    (cond (leb (statesOf file o) state) (Single.Refused 12 0)
+    (cond (leb (stateCount file o) state) (Single.Refused 12 0)
     (cond (conditionHolds file o (conditionAt file o condition) (stateAt file o state)) Single.Holds Single.Fails))
 
 unfoldable pub singleBy : List ℕ → Reading → ℕ → ℕ → Single
-singleBy file (Reading.Readable o) condition state = testedOf file o condition state
+singleBy file (Reading.Readable o) condition state = singleJudged file o condition state
 singleBy file (Reading.Refused number place) condition state = Single.Refused number place
 
 unfoldable pub singleOf : List ℕ → ℕ → ℕ → Single

@@ -19,7 +19,7 @@ ghost use Rattle.records.specs.Kind.{truth as truthSort};
 ghost use Rattle.expressions.specs.Expression.{partAt, Fits, Spans};
 ghost use Rattle.states.specs.State.{Within, State};
 ghost use Rattle.conditions.specs.Layout.{layoutOf};
-ghost use Rattle.verdicts.specs.Verdict.{statesOf};
+ghost use Rattle.verdicts.specs.Verdict.{stateCount};
 ghost use Rattle.conditions.specs.Edges.{pairAt};
 ghost use Rattle.verdicts.specs.Acceptance.{edgeMarksOf, doubleMarksOf, qPlacesOf, openingAt, heldNodesOf, openingHolds, coversHold};
 ghost use Rattle.verdicts.specs.Acceptance.{reachedOf, pairHolds, nodesHold, transitionsHold, every, blockHolds, heldBlocksOf, foundOf, conditionsIn};
@@ -433,7 +433,7 @@ pub(crate) fn find(
     blocks: Blocks,
 ) -> Found
     requires known { ⌜ LookedUp (now file) outline (now spans) low high (now nodes) (now transitions) ⌝ }
-    requires states { ⌜ states ≡ statesOf (now file) outline ⌝ }
+    requires states { ⌜ states ≡ stateCount (now file) outline ⌝ }
     requires blocks { ⌜ blocks ≡ layoutOf (now file) outline ⌝ }
     ensures { λ r. ⌜ r ≡ foundOf (now (file .entry)) outline ⌝ }
 {

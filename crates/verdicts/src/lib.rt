@@ -27,7 +27,7 @@ ghost use Prim.Native.Nat.{_≤_};
 ghost use Rattle.reading.specs.declared.Reading.{Reading};
 ghost use Rattle.reading.specs.Read.{readOf};
 ghost use Rattle.conditions.specs.Condition.{totalOf, nodeNumber, transitionNumber};
-ghost use Rattle.verdicts.specs.Verdict.{statesOf, unnamedOf, namedOf, judgedOf, verdictBy};
+ghost use Rattle.verdicts.specs.Verdict.{stateCount, unnamedOf, namedOf, judgedOf, verdictBy};
 ghost use Rattle.verdicts.specs.Acceptance.{LookedUp, Begun};
 
 // What a single test answers: the refusal that meets it, with its number and its place; or whether the condition holds at the state.
@@ -118,7 +118,7 @@ fn first_break(
     from: usize,
 ) -> Verdict
     requires known { ⌜ LookedUp (now file) outline (now spans) low high nodes transitions ⌝ }
-    requires states { ⌜ states ≡ statesOf (now file) outline ⌝ }
+    requires states { ⌜ states ≡ stateCount (now file) outline ⌝ }
     requires total { ⌜ total ≡ totalOf (now file) outline ⌝ }
     requires begun { ⌜ Begun (now file) outline sure end from ⌝ }
     ensures { λ r. ⌜ r ≡ judgedOf (now (file .entry)) outline ⌝ }

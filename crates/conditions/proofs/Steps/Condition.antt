@@ -23,15 +23,15 @@ use Rattle.conditions.proofs.Laws.Condition.{Bounds, Move, layout-bound
 
 module _ (file : List ℕ) (o : Outline) (node : ℕ) where
   -- the first e edges are no double edges from the node
-  pub record Passed (e : ℕ) : Type 0 where
+  pub record NotDoubled (e : ℕ) : Type 0 where
     pub most : e ≤ o .edges
     pub none : (k : ℕ) → k < e → doubleFrom file node (o .edge + k) ≡ false
 
-  pub passed-begin : Passed 0
+  pub passed-begin : NotDoubled 0
   passed-begin = record { most = omega arith; none = λ k l. absurd (omega arith) }
 
-  module _ {e : ℕ} (p : Passed e) where
-    pub passed-more : e < o .edges → doubleFrom file node (o .edge + e) ≡ false → Passed (e + 1)
+  module _ {e : ℕ} (p : NotDoubled e) where
+    pub passed-more : e < o .edges → doubleFrom file node (o .edge + e) ≡ false → NotDoubled (e + 1)
     passed-more l f = record { most = omega arith; none = λ k m. go k m (decLt k e) }
       where
         go : (k : ℕ) → k < e + 1 → Dec (k < e) → doubleFrom file node (o .edge + k) ≡ false

@@ -5,12 +5,12 @@ use Prim.Native.Nat.{_-_}
 use native.Mathlib.Omega.{arith}
 use borrow.Author.Needs.{needs}
 use Rattle.reading.proofs.Laws.Readable.{fits}
-use Rattle.conditions.proofs.Steps.Condition.{Passed, passed-begin, passed-more, passed-here, passed-end}
+use Rattle.conditions.proofs.Steps.Condition.{NotDoubled, passed-begin, passed-more, passed-here, passed-end}
 use Rattle.conditions.proofs.double_of.Statement.{statement}
 use Rattle.conditions.proofs.double_of.Tie as tie
 
 abbrev Inv-loop : tie.InvT-loop
-Inv-loop file outline node e₀ e = Passed file outline node e
+Inv-loop file outline node e₀ e = NotDoubled file outline node e
 
 abbrev μ-loop : tie.MeasureT-loop
 μ-loop file outline node e₀ e = outline .edges - e

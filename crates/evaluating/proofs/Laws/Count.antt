@@ -8,7 +8,7 @@ use native.Mathlib.Omega.{arith}
 use borrow.Author.Tests.{lt-ltb, le-ltb}
 use Rattle.integers.specs.Radix.{offsetOf}
 use Rattle.records.specs.Place.{tabulate}
-use Rattle.reading.specs.States.{productOf, sizeOf as recordSize}
+use Rattle.reading.specs.States.{productOf, sizeAt as recordSize}
 use Rattle.states.specs.State.{endsOf, lowsOf, highsOf}
 use Rattle.states.specs.Number.{sizeOf, countOf}
 use Rattle.states.proofs.Laws.State.{entry}

@@ -2,7 +2,7 @@
 --     ranges                                       no range is empty
 --     states, states-within                        there are as many states as reading counts, at least 1 and at most 1,048,576
 --     numbered, number                             each number below that has a state, and each state such a number: they determine each other
---     first, next                                  the first state, and the move forward from any but the last to the one numbered one higher
+--     state-zero, next                                   the first state, and the move forward from any but the last to the one numbered one higher
 --     start-fits, claimed-fits, assertion-fits     in every state the start, each expression of the property and each node's assertion can be evaluated
 --     transition-fits                              so can each transition's guard and assigned values
 --     assignments-all, assignments-once            its assignments are all that reading found, to no variable twice
@@ -34,7 +34,7 @@ use Rattle.expressions.specs.Expression.{partAt, Fits}
 use Rattle.states.specs.State.{lowsOf, highsOf, Ranges, State}
 use Rattle.states.specs.Number.{countOf, stateOf, numberOf, advanceOf}
 use Rattle.expressions.specs.Expression.{behind}
-use Rattle.evaluating.specs.Transition.{assignmentAt, assignmentsFrom, allInRange, guardOf, assignmentsOf, enabledOf, successorOf, AssignmentsFit, TransitionFits}
+use Rattle.evaluating.specs.Transition.{assignmentAt, assignmentsFrom, allInRange, guardOf, assignmentList, enabledOf, successorOf, AssignmentsFit, TransitionFits}
 use Rattle.expressions.proofs.Laws.Sound.{expression-fits}
 use Rattle.states.proofs.Laws.State.{ends-at, ranges-file, within-at}
 use Rattle.evaluating.proofs.Laws.Count.{count-file}
@@ -102,8 +102,8 @@ module _ (file : List ℕ) (o : Outline) (r : readOf file ≡ Reading.Readable o
   pub numbered : (n : ℕ) → n < countOf lows highs → State file (o .vars) (stateOf lows highs n) × (numberOf lows highs (stateOf lows highs n) ≡ n)
   numbered n l = (state-within ranges n l, number-of-state ranges n l)
 
-  pub first : stateOf lows highs 0 ≡ lows
-  first = first-state ranges
+  pub state-zero : stateOf lows highs 0 ≡ lows
+  state-zero = first-state ranges
 
   pub next : (n : ℕ) → n + 1 < countOf lows highs → advanceOf lows highs (stateOf lows highs n) ≡ stateOf lows highs (n + 1)
   next n l = advance-next ranges n l
@@ -141,14 +141,14 @@ module _ (file : List ℕ) (o : Outline) (r : readOf file ≡ Reading.Readable o
 
     -- ---- the assignments: all that reading found, to no variable twice
     module _ (t : ℕ) (l : t < o .transitions) where
-      pub assignments-all : variables (assignmentsOf file (readable.transition file o r t l .place) state) ≡ readable.transition file o r t l .assigned
-      unfolding assignmentsOf
+      pub assignments-all : variables (assignmentList file (readable.transition file o r t l .place) state) ≡ readable.transition file o r t l .assigned
+      unfolding assignmentList
       assignments-all =
           let x = readable.transition file o r t l in
           rw (behind-is file (o .vars) (x .end) (x .guard)) (listed file (o .vars) (x .end) state (length file / 8) (x .behind) (omega arith) (x .assignments))
 
-      pub assignments-once : Once (assignmentsOf file (readable.transition file o r t l .place) state)
-      unfolding assignmentsOf
+      pub assignments-once : Once (assignmentList file (readable.transition file o r t l .place) state)
+      unfolding assignmentList
       assignments-once =
           let x = readable.transition file o r t l in
           rw (behind-is file (o .vars) (x .end) (x .guard)) (once file (o .vars) (x .end) state (length file / 8) (x .behind) (x .assignments))
@@ -157,5 +157,5 @@ module _ (file : List ℕ) (o : Outline) (r : readOf file ≡ Reading.Readable o
     pub successor-within : (at : ℕ) → enabledOf lows highs file at state ≡ true → State file (o .vars) (successorOf file at state)
     unfolding enabledOf successorOf
     successor-within at e =
-        assigned-within lows highs (assignmentsOf file at state) state s
-        (and-eq-true-iff (guardOf file at state) (allInRange lows highs (assignmentsOf file at state)) .0 e .1)
+        assigned-within lows highs (assignmentList file at state) state s
+        (and-eq-true-iff (guardOf file at state) (allInRange lows highs (assignmentList file at state)) .0 e .1)

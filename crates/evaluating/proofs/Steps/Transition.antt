@@ -12,7 +12,7 @@ use Rattle.evaluating.specs.declared.Assignment.{Assignment}
 use Rattle.evaluating.specs.declared.Assigned.{Assigned}
 use Rattle.evaluating.specs.declared.Stepped.{Stepped}
 use Rattle.expressions.specs.Expression.{behind}
-use Rattle.evaluating.specs.Transition.{assignmentAt, assignmentsFrom, inRangeOf, allInRange, assigned, guardOf, assignmentsOf, enabledOf, successorOf, assignOf, stepOf, AssignmentsFit}
+use Rattle.evaluating.specs.Transition.{assignmentAt, assignmentsFrom, inRangeOf, allInRange, assigned, guardOf, assignmentList, enabledOf, successorOf, assignOf, stepOf, AssignmentsFit}
 
 -- ---- the assignments from a record on
 module _ (file : List ℕ) (at : ℕ) (state : List ℤ) where
@@ -89,5 +89,5 @@ module _ (lows highs : List ℤ) (file : List ℕ) (at : ℕ) (state : List ℤ)
   pub step-on : guardOf file at state ≡ true → {a : Assigned}
       → a ≡ assignOf lows highs (assignmentsFrom file (length file / 8) (behind file (at + 1)) state) state
       → _≡_ {A = Stepped} (record { guard = true; enabled = a .fits; next = a .next }) (stepOf lows highs file at state)
-  unfolding stepOf enabledOf successorOf assignOf assignmentsOf
+  unfolding stepOf enabledOf successorOf assignOf assignmentList
   step-on e is = rw (e, is)

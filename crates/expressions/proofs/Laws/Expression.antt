@@ -16,7 +16,7 @@ use Rattle.records.specs.declared.kinds.Form.the-variants.{Constant, Variable, 
 use Rattle.records.specs.Kind.{formAt, signatureOf, signatureAt}
 use Rattle.records.specs.Kind.{number as numberSort}
 use Rattle.records.specs.Walk.{spans, span}
-use Rattle.expressions.specs.Expression.{partAt, first, second, numberBy, truthBy, number, truth, RecordFits, OperandsFit, Fits}
+use Rattle.expressions.specs.Expression.{partAt, firstOperand, secondOperand, numberBy, truthBy, number, truth, RecordFits, OperandsFit, Fits}
 
 -- ---- opened
 module _ {levels below : ℕ} (e : levels ≡ suc below) (part : List ℕ) (state : List ℤ) {f : Form} (is : formAt part 0 ≡ f) where
@@ -67,11 +67,11 @@ operands-most Unfit = omega arith
 
 operands-within : (F : List ℕ → Type 0) (below : ℕ) (part : List ℕ) (n : ℕ) → n ≤ 2 → 8 ≤ length part → ((p : List ℕ) → F p → 8 * span below p ≤ length p)
     → OperandsFit F below part n → 8 * spans (span below) n 1 part ≤ length part
-unfolding OperandsFit spans first second
+unfolding OperandsFit spans firstOperand secondOperand
 operands-within F below part zero l there ih h = omega arith
-operands-within F below part (suc zero) l there ih h = omega (arith, ih (first part) h, length-drop 8 part)
+operands-within F below part (suc zero) l there ih h = omega (arith, ih (firstOperand part) h, length-drop 8 part)
 operands-within F below part (suc (suc zero)) l there ih h =
-    omega (arith, ih (first part) (h .0), ih (second below part) (h .1), length-drop 8 part, length-drop (8 * (1 + span below (first part))) part)
+    omega (arith, ih (firstOperand part) (h .0), ih (secondOperand below part) (h .1), length-drop 8 part, length-drop (8 * (1 + span below (firstOperand part))) part)
 operands-within F below part (suc (suc (suc n))) l there ih h = absurd (omega arith)
 
 pub fits-within : (levels want : ℕ) (part : List ℕ) (state : List ℤ) → Fits levels want part state → 8 * span levels part ≤ length part

@@ -26,7 +26,7 @@ use Rattle.records.specs.Walk.{span}
 use Rattle.intervals.specs.Interval.{interval, unit, leafOf, combine, joinOf}
 use Rattle.intervals.specs.Expression.{Expression, Operands}
 use Rattle.intervals.proofs.Laws.Expression.{expression-opens, expression-deepest, expression-bounded, expression-span}
-use Rattle.expressions.specs.Expression.{partAt, first, second, indicatorOf, numberBy, number, truth, OperandsFit, Fits}
+use Rattle.expressions.specs.Expression.{partAt, firstOperand, secondOperand, indicatorOf, numberBy, number, truth, OperandsFit, Fits}
 use Rattle.expressions.proofs.Laws.Expression.{number-opens}
 
 -- ---- the record of a part is the file's
@@ -48,12 +48,12 @@ module _ (file : List ℕ) (at : ℕ) where
   pub part-part : (k : ℕ) → partAt (partAt file at) k ≡ partAt file (at + k)
   part-part k = let z : 8 * at + 8 * k ≡ 8 * (at + k) = omega arith in drop-drop (8 * k) (8 * at) file ∙ rw z
 
-  pub first-part : first (partAt file at) ≡ partAt file (at + 1)
-  unfolding first
+  pub first-part : firstOperand (partAt file at) ≡ partAt file (at + 1)
+  unfolding firstOperand
   first-part = part-part 1
 
-  pub second-part : (levels mid : ℕ) → mid ≡ at + 1 + span levels (partAt file (at + 1)) → second levels (partAt file at) ≡ partAt file mid
-  unfolding second
+  pub second-part : (levels mid : ℕ) → mid ≡ at + 1 + span levels (partAt file (at + 1)) → secondOperand levels (partAt file at) ≡ partAt file mid
+  unfolding secondOperand
   second-part levels mid e =
       let n = span levels (partAt file (at + 1)) in
       let z : at + (1 + n) ≡ mid = omega arith in
@@ -86,7 +86,7 @@ module _ (file : List ℕ) (vars : ℕ) (most : vars ≤ 12) (state : List ℤ)
     abbrev N : List ℕ → ℤ
     N p = number levels p state
 
-    second-at : {want mid : ℕ} {j : Interval} → Expression file vars levels want (at + 1) mid j → second levels (partAt file at) ≡ partAt file mid
+    second-at : {want mid : ℕ} {j : Interval} → Expression file vars levels want (at + 1) mid j → secondOperand levels (partAt file at) ≡ partAt file mid
     second-at {want} {mid} {j} x = second-part file at levels mid (expression-span file vars want (at + 1) mid x)
 
     operands-fit : {i : Interval} → Operands file vars levels at end i
@@ -114,7 +114,7 @@ module _ (file : List ℕ) (vars : ℕ) (most : vars ≤ 12) (state : List ℤ)
         let over : signatureAt file at .over ≡ numberSort = ap (λ (f : Form). signatureOf f .over) is in
         rw (is, kind-part file at, first-part file at, second-at x) (combine-in (kindAt file at) (ih _ _ _ _ x .number-lies over) (ih _ _ _ _ y .number-lies over))
     number-by Indicator is sort named (Operands.none m e) = let z : _≡_ {A = ℕ} 1 0 = count-at is m in absurd (omega arith)
-    number-by Indicator is sort named (Operands.one {j} m x) = indicator-in (truth levels (first (partAt file at)) state)
+    number-by Indicator is sort named (Operands.one {j} m x) = indicator-in (truth levels (firstOperand (partAt file at)) state)
     number-by Indicator is sort named (Operands.two {mid} {j} {k} m x y) = let z : _≡_ {A = ℕ} 1 2 = count-at is m in absurd (omega arith)
     number-by Literal is sort named o = absurd (omega arith)
     number-by Negation is sort named o = absurd (omega arith)

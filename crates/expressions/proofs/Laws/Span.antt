@@ -15,7 +15,7 @@ use lib.ListN.{length, getD, drop, replicate, length-drop}
 use lib.Seq.{getD-drop, drop-drop}
 use Rattle.records.specs.Kind.{formAt, signatureOf, signatureAt}
 use Rattle.records.specs.Walk.{spans, span}
-use Rattle.expressions.specs.Expression.{partAt, first, second, OperandsFit, Fits, spanBy, withSpan, spansFrom, spansOf, Spans}
+use Rattle.expressions.specs.Expression.{partAt, firstOperand, secondOperand, OperandsFit, Fits, spanBy, withSpan, spansFrom, spansOf, Spans}
 use Rattle.expressions.proofs.Laws.Expression.{span-opens, fits-opens, fits-level, fits-here, operands-most}
 use Rattle.expressions.proofs.Laws.Sound.{form-part, part-part, first-part, second-part}
 
@@ -46,7 +46,7 @@ module _ (file : List ℕ) where
 
     by-right : (below over : ℕ) (state : List ℤ) (n : ℕ) → n ≤ 2
         → OperandsFit (λ p. Fits below over p state) below (partAt file at) n → spanBy n rest ≡ spans (span below) n 1 (partAt file at)
-    unfolding OperandsFit spans first second spanBy
+    unfolding OperandsFit spans firstOperand secondOperand spanBy
     by-right below over state zero l h = refl
     by-right below over state (suc zero) l h =
         rw (first-part file at) (omega (arith, first-entry .right below over state (rw first-part at h)))

@@ -18,7 +18,7 @@ use Rattle.records.specs.Kind.{within, formOf, formAt, signatureOf}
 use Rattle.records.specs.Kind.{number as numberSort, truth as truthSort}
 use Rattle.records.specs.Walk.{span}
 use Rattle.intervals.specs.Interval.{combine}
-use Rattle.expressions.specs.Expression.{partAt, first, second, indicatorOf, connectOf, compareOf, numberBy, truthBy, number, truth, OperandsFit, Fits, Spans}
+use Rattle.expressions.specs.Expression.{partAt, firstOperand, secondOperand, indicatorOf, connectOf, compareOf, numberBy, truthBy, number, truth, OperandsFit, Fits, Spans}
 use Rattle.expressions.proofs.Laws.Expression.{number-opens, truth-opens, fits-opens, fits-level, fits-record, fits-small, fits-within}
 use Rattle.expressions.proofs.Laws.Span.{spans-from}
 
@@ -91,11 +91,11 @@ module _ (levels want : ℕ) (part table : List ℕ) (at : ℕ) (state : List �
 
   module _ {f : Form} (is : formAt part 0 ≡ f) {p : List ℕ} (e : p ≡ partAt part 1) where
     pub one : signatureOf f .operands ≡ 1 → Asked (levels - 1) (signatureOf f .over) p table (at + 1) state
-    unfolding OperandsFit first
+    unfolding OperandsFit firstOperand
     one m = onward 1 e there (levels - 1) (signatureOf f .over) (rw e (rw m at (fits-opens level part state is want (h .0))))
 
     pub two : signatureOf f .operands ≡ 2 → Two levels (signatureOf f .over) f part table at p state
-    unfolding OperandsFit first second
+    unfolding OperandsFit firstOperand secondOperand
     two m =
         let below = levels - 1 in
         let over = signatureOf f .over in
@@ -133,11 +133,11 @@ module _ (levels want : ℕ) (part table : List ℕ) (at : ℕ) (state : List �
 
   module _ {p : List ℕ} (e : p ≡ partAt part 1) {x : Bool} (a : x ≡ truth (levels - 1) p state) where
     pub indicator-is : formAt part 0 ≡ Indicator → indicatorOf x ≡ number levels part state
-    unfolding numberBy first
+    unfolding numberBy firstOperand
     indicator-is is = rw (a, e, number-opens level part state is)
 
     pub negation-is : formAt part 0 ≡ Negation → not x ≡ truth levels part state
-    unfolding truthBy first
+    unfolding truthBy firstOperand
     negation-is is = rw (a, e, truth-opens level part state is)
 
 module _ {levels over : ℕ} {f : Form} {part table : List ℕ} {at : ℕ} {p : List ℕ} {state : List ℤ} (t : Two levels over f part table at p state)
@@ -145,16 +145,16 @@ module _ {levels over : ℕ} {f : Form} {part table : List ℕ} {at : ℕ} {p : 
   module _ {q : List ℕ} (d : q ≡ partAt part (1 + getD table (at + 1) 0)) where
     module _ {x y : ℤ} (a : x ≡ number (levels - 1) p state) (b : y ≡ number (levels - 1) q state) where
       pub arithmetic-is : f ≡ Arithmetic → combine kind x y ≡ number levels part state
-      unfolding numberBy first second
+      unfolding numberBy firstOperand secondOperand
       arithmetic-is k = rw (← is, b, d, t .entry-is, a, t .rest, number-opens (t .level) part state (t .is ∙ k))
 
       pub comparison-is : f ≡ Comparison → compareOf kind x y ≡ truth levels part state
-      unfolding truthBy first second
+      unfolding truthBy firstOperand secondOperand
       comparison-is k = rw (← is, b, d, t .entry-is, a, t .rest, truth-opens (t .level) part state (t .is ∙ k))
 
     pub connective-is : {x y : Bool} → x ≡ truth (levels - 1) p state → y ≡ truth (levels - 1) q state → f ≡ Connective
         → connectOf kind x y ≡ truth levels part state
-    unfolding truthBy first second
+    unfolding truthBy firstOperand secondOperand
     connective-is a b k = rw (← is, b, d, t .entry-is, a, t .rest, truth-opens (t .level) part state (t .is ∙ k))
 
   -- of a connective whose right operand was not looked at

@@ -13,18 +13,18 @@ use Rattle.records.specs.Kind.{signatureAt}
 use Rattle.expressions.specs.Expression.{spanBy, withSpan, spansFrom, spansOf}
 use Rattle.expressions.proofs.Laws.Span.{zeros-behind, spans-entry}
 
-pub record Filled (file table : List ℕ) (at : ℕ) : Type 0 where
+pub record SpansFilled (file table : List ℕ) (at : ℕ) : Type 0 where
   pub size : length table ≡ 4096
   pub most : at ≤ length file / 8
   pub from : drop at table ≡ spansFrom file (length file / 8 - at) at ++ replicate (4096 - length file / 8) 0
 
 -- ---- one record: mid is behind its first operand, end behind its second, where it has these
 -- from a, b is behind the operand k of n, or there is none
-abbrev pub Passed : List ℕ → ℕ → ℕ → ℕ → ℕ → Type 0
-Passed table n k a b = ((k < n) × (b ≡ a + getD table a 0)) ⊎ ((n ≤ k) × (b ≡ a))
+abbrev pub BehindOperand : List ℕ → ℕ → ℕ → ℕ → ℕ → Type 0
+BehindOperand table n k a b = ((k < n) × (b ≡ a + getD table a 0)) ⊎ ((n ≤ k) × (b ≡ a))
 
 -- at the record `at`, with the table filled behind it
-module _ {file table : List ℕ} (at : ℕ) (f : Filled file table (at + 1)) where
+module _ {file table : List ℕ} (at : ℕ) (f : SpansFilled file table (at + 1)) where
   abbrev rest : List ℕ
   rest = spansFrom file (length file / 8 - (at + 1)) (at + 1)
 
@@ -34,19 +34,19 @@ module _ {file table : List ℕ} (at : ℕ) (f : Filled file table (at + 1)) whe
   first-is : getD table (at + 1) 0 ≡ getD rest 0 0
   first-is = rw add-zero at (behind 0)
 
-  passed : {n k a b : ℕ} → Passed table n k a b → k < n → b ≡ a + getD table a 0
+  passed : {n k a b : ℕ} → BehindOperand table n k a b → k < n → b ≡ a + getD table a 0
   passed p l = ⊎-elim (λ w. w .1) (λ w. absurd (omega arith)) p
 
-  stays : {n k a b : ℕ} → Passed table n k a b → n ≤ k → b ≡ a
+  stays : {n k a b : ℕ} → BehindOperand table n k a b → n ≤ k → b ≡ a
   stays p l = ⊎-elim (λ w. absurd (omega arith)) (λ w. w .1) p
 
-  pub mid-within : {n mid : ℕ} → Passed table n 0 (at + 1) mid → mid ≤ length file / 8
+  pub mid-within : {n mid : ℕ} → BehindOperand table n 0 (at + 1) mid → mid ≤ length file / 8
   mid-within p =
       let m = f .most in
       let w = spans-entry file (length file / 8 - (at + 1)) (at + 1) (omega arith) 0 .within (omega arith) in
       ⊎-elim (λ z. omega (arith, first-is)) (λ z. omega arith) p
 
-  end-is : (n mid end : ℕ) → Passed table n 0 (at + 1) mid → Passed table n 1 mid end → end ≡ at + spanBy n rest
+  end-is : (n mid end : ℕ) → BehindOperand table n 0 (at + 1) mid → BehindOperand table n 1 mid end → end ≡ at + spanBy n rest
   unfolding spanBy
   end-is zero mid end p q = omega (arith, stays p (omega arith), stays q (omega arith))
   end-is (suc zero) mid end p q = omega (arith, first-is, passed p (omega arith), stays q (omega arith))
@@ -56,7 +56,7 @@ module _ {file table : List ℕ} (at : ℕ) (f : Filled file table (at + 1)) whe
       omega (arith, passed q (omega arith))
 
   module _ {s : Signature} {mid end : ℕ} (is : s ≡ signatureAt file at)
-      (p : Passed table (s .operands) 0 (at + 1) mid) (q : Passed table (s .operands) 1 mid end) where
+      (p : BehindOperand table (s .operands) 0 (at + 1) mid) (q : BehindOperand table (s .operands) 1 mid end) where
     span-is : end ≡ at + spanBy (signatureAt file at .operands) rest
     span-is = end-is (signatureAt file at .operands) mid end (rw is at p) (rw is at q)
 
@@ -67,7 +67,7 @@ module _ {file table : List ℕ} (at : ℕ) (f : Filled file table (at + 1)) whe
         let w = spans-entry file (suc (length file / 8 - (at + 1))) at (omega arith) 0 .within (omega arith) in
         (omega (arith, span-is), omega (arith, span-is))
 
-    pub filled-more : at < 4096 → Filled file (set table at (end - at)) at
+    pub filled-more : at < 4096 → SpansFilled file (set table at (end - at)) at
     unfolding spansFrom withSpan
     filled-more l =
         let v = end - at in
@@ -90,7 +90,7 @@ module _ {file table : List ℕ} (at : ℕ) (f : Filled file table (at + 1)) whe
 
 -- ---- the loop
 module _ (file : List ℕ) where
-  pub filled-begin : Filled file (replicate 4096 0) (length file / 8)
+  pub filled-begin : SpansFilled file (replicate 4096 0) (length file / 8)
   unfolding spansFrom
   filled-begin =
       let z : length file / 8 - length file / 8 ≡ 0 = omega arith in
@@ -101,6 +101,6 @@ module _ (file : List ℕ) where
       zeros-left zero (suc k) = rw zero-sub
       zeros-left (suc n) (suc k) = rw suc-sub-suc (zeros-left n k)
 
-  pub filled-end : {table : List ℕ} {at : ℕ} → at ≤ 0 → Filled file table at → table ≡ spansOf file
+  pub filled-end : {table : List ℕ} {at : ℕ} → at ≤ 0 → SpansFilled file table at → table ≡ spansOf file
   unfolding spansOf
   filled-end {table} {at} l f = let z : at ≡ 0 = omega arith in rw (z, sub-zero) at (f .from)

@@ -4,8 +4,8 @@ use mathlib.Core.Path.{_≡_, sym}
 use mathlib.Core.Bool.{cond}
 use native.Mathlib.Omega.{arith}
 use Rattle.reading.proofs.Laws.Readable.{small, variables-within}
-use Rattle.testing.specs.Testing.{nodesOf, transitionsOf}
-use Rattle.verdicts.specs.Verdict.{testedOf}
+use Rattle.testing.specs.Testing.{nodePlaces, transitionPlaces}
+use Rattle.verdicts.specs.Verdict.{singleJudged}
 use Rattle.verdicts.specs.declared.Single.{Single}
 use Rattle.verdicts.proofs.Steps.Verdict.{count-is, count-asks, spans-serve, nodes-ask, transitions-ask, Ready, test-asks, state-asks}
 use Rattle.verdicts.proofs.Steps.Verdict.{single-asks, single-answers, tested-eleven, tested-twelve}
@@ -21,7 +21,7 @@ ready : (c : tie.After-transition-places)
     (c .before .before .before .before .before .lows .result) (c .before .before .before .before .highs .result)
     (c .before .before .before .count .result) (c .before .node-places .result) (c .transition-places .result)
     (c .before .before .before .before .before .before .before .total .result)
-unfolding nodesOf transitionsOf
+unfolding nodePlaces transitionPlaces
 ready c =
     record {
       readable = start c .pre;
@@ -37,7 +37,7 @@ abbrev before-test : tie.After-spans → tie.After-transition-places
 before-test c = c .before .before .before .before .before
 
 answers : (c : tie.After-passes)
-    → testedOf (start (before-test (c .before)) .args .file .now) (start (before-test (c .before)) .args .outline)
+    → singleJudged (start (before-test (c .before)) .args .file .now) (start (before-test (c .before)) .args .outline)
     (start (before-test (c .before)) .args .condition) (start (before-test (c .before)) .args .state)
     ≡ cond (c .passes .result) Single.Holds Single.Fails
 answers c =

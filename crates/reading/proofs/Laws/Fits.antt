@@ -9,14 +9,14 @@ use Rattle.records.proofs.Laws.Walk.{walk-bound}
 use Rattle.sections.proofs.Laws.Section.{kind-here}
 use Rattle.parsing.proofs.Laws.Outline.{Parses}
 use Rattle.parsing.proofs.Laws.Parsed.{variables-most, variable-range, transitions-most, nodes-most, edges-end, edge-transition}
-use Rattle.reading.specs.States.{Ranges}
-use Rattle.reading.specs.Edge.{Fits}
+use Rattle.reading.specs.States.{VariablesFit}
+use Rattle.reading.specs.Edge.{OutlineFits}
 
 module _ (file : List ℕ) (o : Outline) (p : Parses file o) where
-  pub ranges : Ranges file (o .vars)
+  pub ranges : VariablesFit file (o .vars)
   ranges = let s = kind-here file 0x02 (o .vars) (p .start-named) in record { here = omega arith; ordered = variable-range file o p }
 
-  pub fits : Fits file o
+  pub fits : OutlineFits file o
   fits =
       let q = kind-here file 0x05 (o .property) (p .property-named) in
       let e = edges-end file o p in

@@ -31,9 +31,9 @@ use Rattle.parsing.proofs.Laws.Outline.{Parses}
 use Rattle.parsing.proofs.Laws.Parsed as parsed
 use Rattle.reading.specs.declared.Reading.{Reading}
 use Rattle.reading.specs.States.{statesOf, productOf}
-use Rattle.reading.specs.Edge.{diagram, transitionAt, justOf, Fits}
+use Rattle.reading.specs.Edge.{diagram, transitionAt, justOf, OutlineFits}
 use Rattle.reading.specs.Read.{readOf}
-use Rattle.reading.specs.Readable.{Start, Transition, Claimed, Node, Edge, DoubleTransition}
+use Rattle.reading.specs.Readable.{Start, Transition, PropertyExpression, Node, Edge, DoubleTransition}
 use Rattle.reading.proofs.Laws.Fits as fitting
 use Rattle.reading.proofs.Laws.Stage.{Stages, stages-of}
 use Rattle.reading.proofs.Laws.States.{states-most}
@@ -61,7 +61,7 @@ module _ (file : List ℕ) (o : Outline) (r : readOf file ≡ Reading.Readable o
   small = parses .small
 
   -- the outline stays within the file
-  pub fits : Fits file o
+  pub fits : OutlineFits file o
   fits = fitting.fits file o parses
 
   pub variables-within : (1 ≤ o .vars) × (o .vars ≤ 12)
@@ -120,7 +120,7 @@ module _ (file : List ℕ) (o : Outline) (r : readOf file ≡ Reading.Readable o
   pub transition : (t : ℕ) → t < o .transitions → Transition file o t
   transition = scan.transition-scanned file o stages
 
-  pub claimed : (i : ℕ) → i < expressionsOf file (o .property) → Claimed file o i
+  pub claimed : (i : ℕ) → i < expressionsOf file (o .property) → PropertyExpression file o i
   claimed = scan.claimed-scanned file o stages
 
   pub node : (n : ℕ) → n < o .nodes → Node file o n

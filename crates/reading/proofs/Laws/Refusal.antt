@@ -22,7 +22,7 @@ use Rattle.parsing.proofs.Laws.Outline.{Parses, parses}
 use Rattle.reading.specs.declared.Reading.{Reading}
 use Rattle.intervals.specs.declared.Analysis.{Analysis}
 use Rattle.records.specs.Search.{refuseFirst}
-use Rattle.reading.specs.States.{sizeOf, statesOf}
+use Rattle.reading.specs.States.{sizeAt, statesOf}
 use Rattle.intervals.specs.Interval.{unit, leafOf, joinOf, ownOf, andInterval, byOperands, analysisOf, andExpression, analysedFrom, intervalsOf}
 use Rattle.reading.specs.Edge.{diagram, ruleOf, rulesOf, doubledOf, doublesOf}
 use Rattle.reading.specs.Read.{andStage, stagesRead, parsedRead, readOf}
@@ -42,7 +42,7 @@ module _ (most : ℕ) where
   unfolding statesOf
   states-refuses file zero at product l = walked-ends most product
   states-refuses file (suc left) at product l =
-      let next = product * sizeOf file at in
+      let next = product * sizeAt file at in
       by-test most (leb next 1048576) (statesOf file left (at + 1) next) (Walked.Refused 7 at)
       (λ h. states-refuses file left (at + 1) next (omega arith)) (λ h. refused walked most 7 at (omega arith) (omega arith) (omega arith))
 

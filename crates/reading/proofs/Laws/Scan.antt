@@ -25,18 +25,18 @@ use Rattle.parsing.proofs.Laws.Through as through
 use Rattle.intervals.specs.declared.Analysis.{Analysis}
 use Rattle.intervals.specs.Interval.{analysisOf, andExpression, analysedFrom, intervalsOf}
 use Rattle.intervals.specs.Expression.{Expression}
-use Rattle.reading.specs.Readable.{Start, Apart, Assignments, Transition, Claimed, Node}
+use Rattle.reading.specs.Readable.{Start, Apart, Assignments, Transition, PropertyExpression, Node}
 use Rattle.intervals.proofs.Laws.Interval.{analysis-walk, analysis-ahead}
-use Rattle.reading.proofs.Laws.Stage.{Passed, Stages}
+use Rattle.reading.proofs.Laws.Stage.{Ends, Stages}
 
 -- ---- the scan at a record
 -- the expressions from `at` on passed
 record Scanned (file : List ℕ) (at : ℕ) : Type 0 where
   left : ℕ
   enough : length file / 8 ≤ at + left
-  all : Passed (analysedFrom file left at)
+  all : Ends (analysedFrom file left at)
 
-scanned : (file : List ℕ) → Passed (intervalsOf file) → Scanned file 0
+scanned : (file : List ℕ) → Ends (intervalsOf file) → Scanned file 0
 unfolding intervalsOf
 scanned file p = record { left = length file / 8; enough = omega arith; all = p }
 
@@ -47,7 +47,7 @@ record Passing (file : List ℕ) (vars want at end : ℕ) : Type 0 where
   rest : Scanned file end
 
 module _ (file : List ℕ) (at : ℕ) (here : at < length file / 8) where
-  skip : (left : ℕ) → length file / 8 ≤ at + left → signatureAt file at .sort ≡ none → Passed (analysedFrom file left at) → Scanned file (at + 1)
+  skip : (left : ℕ) → length file / 8 ≤ at + left → signatureAt file at .sort ≡ none → Ends (analysedFrom file left at) → Scanned file (at + 1)
   unfolding analysedFrom
   skip zero l u p = absurd (omega arith)
   skip (suc left) l u p =
@@ -66,7 +66,7 @@ module _ (file : List ℕ) (at : ℕ) (here : at < length file / 8) where
         }
     over left x (Analysis.Out place) is l q = let z : _≡_ {A = ℕ} 0 1 = cc in absurd (omega arith)
 
-    step : (left : ℕ) → length file / 8 ≤ at + left → Passed (analysedFrom file left at) → Passing file vars want at end
+    step : (left : ℕ) → length file / 8 ≤ at + left → Ends (analysedFrom file left at) → Passing file vars want at end
     unfolding analysedFrom
     step zero l p = absurd (omega arith)
     step (suc left) l p = over left (p .end) (analysisOf file 16 at) refl l (simp (lt-ltb _ _ here, ne-eqb _ _ some) at (p .is))
@@ -202,7 +202,7 @@ module _ (file : List ℕ) (o : Outline) (r : Stages file o) where
         assignments = g .assigned .assignments;
       }
 
-  pub claimed-scanned : (i : ℕ) → i < expressionsOf file (o .property) → Claimed file o i
+  pub claimed-scanned : (i : ℕ) → i < expressionsOf file (o .property) → PropertyExpression file o i
   claimed-scanned i l =
       let n = sequence-reach (truthOf file (o .vars)) (Scanned file) (λ x y w s. rest-of truth x y (λ z. omega arith) w s)
       (o .node) (expressionsOf file (o .property)) (o .property + 1) (r .parsed .truths) (through.at-claims file o (r .parsed) (Scanned file) (head file) rest-of first) i l in

@@ -17,20 +17,20 @@ use Rattle.reading.specs.Edge.{rulesOf, doublesOf}
 use Rattle.reading.specs.Read.{andStage, stagesRead, parsedRead, readOf}
 
 -- a stage that refuses nothing
-pub record Passed (w : Walked) : Type 0 where
+pub record Ends (w : Walked) : Type 0 where
   pub end : ℕ
   pub is : w ≡ Walked.End end
 
 -- what a readable file passed
 pub record Stages (file : List ℕ) (o : Outline) : Type 0 where
   pub parsed : Parses file o
-  pub states : Passed (statesOf file (o .vars) 0 1)
-  pub intervals : Passed (intervalsOf file)
-  pub rules : Passed (rulesOf file o)
-  pub doubles : Passed (doublesOf file o)
+  pub states : Ends (statesOf file (o .vars) 0 1)
+  pub intervals : Ends (intervalsOf file)
+  pub rules : Ends (rulesOf file o)
+  pub doubles : Ends (doublesOf file o)
 
 module _ (file : List ℕ) (o : Outline) where
-  passed : (w : Walked) (next : Reading) → andStage w next ≡ Reading.Readable o → Passed w × (next ≡ Reading.Readable o)
+  passed : (w : Walked) (next : Reading) → andStage w next ≡ Reading.Readable o → Ends w × (next ≡ Reading.Readable o)
   passed (Walked.End end) next e = (record { end = end; is = refl }, e)
   passed (Walked.Refused n p) next e = let z : _≡_ {A = ℕ} 0 1 = cc in absurd (omega arith)
 

@@ -17,7 +17,7 @@ use Rattle.records.specs.Place.{placeOf, placesOf}
 use Rattle.sections.proofs.Laws.Section.{transitions-bound}
 use Rattle.records.proofs.Laws.Place.{places-nth}
 use Rattle.records.specs.Search.{any, refuseFirst}
-use Rattle.reading.specs.Edge.{transitionAt, single, diagram, descending, justOf, conflictOf, chainRuleOf, ruleOf, doubledOf, doublesOf, Fits, EdgeFits}
+use Rattle.reading.specs.Edge.{transitionAt, single, diagram, descending, justOf, conflictOf, chainRuleOf, ruleOf, doubledOf, doublesOf, OutlineFits, EdgeFits}
 
 -- ---- where a transition stands
 module _ (file : List ℕ) (o : Outline) (t : ℕ) where
@@ -35,7 +35,7 @@ module _ (file : List ℕ) (o : Outline) (t : ℕ) where
   transition-entry places is l m = rw is (places-nth (transitionOf file (o .vars)) (o .transitions) (o .transition) t (omega arith) m)
 
 -- an edge that is left, with `left` edges from `at` on
-pub edge-fits : (file : List ℕ) (o : Outline) (places : List ℕ) (at left : ℕ) → Fits file o → places ≡ placesOf (transitionOf file (o .vars)) (o .transitions) (o .transition)
+pub edge-fits : (file : List ℕ) (o : Outline) (places : List ℕ) (at left : ℕ) → OutlineFits file o → places ≡ placesOf (transitionOf file (o .vars)) (o .transitions) (o .transition)
     → at + left ≡ o .edge + o .edges → o .edge ≤ at → 0 < left → EdgeFits file o places at
 edge-fits file o places at left f p e l m =
     let h = f .edges-here in

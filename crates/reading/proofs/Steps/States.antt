@@ -7,14 +7,14 @@ use native.Mathlib.Numerals.{sub-one}
 use native.Mathlib.Omega.{arith}
 use borrow.Author.Tests.{le-leb, lt-leb}
 use Rattle.records.specs.declared.walk.Walked.the-variants.{End, Refused}
-use Rattle.reading.specs.States.{sizeOf, statesOf}
+use Rattle.reading.specs.States.{sizeAt, statesOf}
 
 pub states-none : (file : List ℕ) (left at product : ℕ) → left ≤ 0 → statesOf file left at product ≡ End product
 unfolding statesOf
 states-none file zero at product h = refl
 states-none file (suc left) at product h = absurd (omega arith)
 
-module _ (file : List ℕ) (at product next : ℕ) (is : next ≡ product * sizeOf file at) where
+module _ (file : List ℕ) (at product next : ℕ) (is : next ≡ product * sizeAt file at) where
   pub states-over : (left : ℕ) → 0 < left → 1048576 < next → statesOf file left at product ≡ Refused 7 at
   unfolding statesOf
   states-over zero h o = absurd (omega arith)

@@ -19,23 +19,23 @@ use Rattle.records.specs.Walk.{expressionFields, andThen, inSequence, re
 use Rattle.records.specs.Kind.{signatureAt}
 
 -- what is known of an expression's record
-pub record Opened (file : List ℕ) (vars levels want at end : ℕ) : Type 0 where
+pub record WalkedRecord (file : List ℕ) (vars levels want at end : ℕ) : Type 0 where
   pub here : at < length file / 8
   pub fit : signatureAt file at .sort ≡ want
   pub right : expressionFields file vars at ≡ true
   pub operands : inSequence (walkOf file vars levels (signatureAt file at .over)) (signatureAt file at .operands) (at + 1) ≡ End end
 
-record Passed (k f : Bool) (rest : Walked) (end : ℕ) : Type 0 where
+record RecordFits (k f : Bool) (rest : Walked) (end : ℕ) : Type 0 where
   kind : k ≡ true
   field : f ≡ true
   goes : rest ≡ End end
 
-passed : (k f : Bool) (rest : Walked) (at end : ℕ) → cond k (cond f rest (Refused 4 at)) (Refused 3 at) ≡ End end → Passed k f rest end
+passed : (k f : Bool) (rest : Walked) (at end : ℕ) → cond k (cond f rest (Refused 4 at)) (Refused 3 at) ≡ End end → RecordFits k f rest end
 passed true true rest at end e = record { kind = refl; field = refl; goes = e }
 passed true false rest at end e = let z : _≡_ {A = ℕ} 0 1 = cc in absurd (omega arith)
 passed false f rest at end e = let z : _≡_ {A = ℕ} 0 1 = cc in absurd (omega arith)
 
-pub walk-opens : (file : List ℕ) (vars levels want at end : ℕ) → walkOf file vars (suc levels) want at ≡ End end → Opened file vars levels want at end
+pub walk-opens : (file : List ℕ) (vars levels want at end : ℕ) → walkOf file vars (suc levels) want at ≡ End end → WalkedRecord file vars levels want at end
 unfolding walkOf recordThen
 walk-opens file vars levels want at end e =
     let p = passed (ltb at (length file / 8) && eqb (signatureAt file at .sort) want) (expressionFields file vars at) (inSequence (walkOf file vars levels (signatureAt file at .over)) (signatureAt file at .operands) (at + 1)) at end e in

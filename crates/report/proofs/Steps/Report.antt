@@ -22,7 +22,7 @@ filled report values i = take 8 report ++ (valueBytes (take i values) ++ drop (2
 
 module _ (report₀ : List ℕ) (values : List ℤ) where
   -- i values are written
-  pub record Filled (report : List ℕ) (i : ℕ) : Type 0 where
+  pub record ValuesWritten (report : List ℕ) (i : ℕ) : Type 0 where
     pub passed : i ≤ 12
     pub done : report ≡ filled report₀ values i
     pub same : length report ≡ length report₀
@@ -40,7 +40,7 @@ module _ (report₀ : List ℕ) (values : List ℤ) where
   high i = highByte (getD values i (pos 0))
 
   module _ (long : 32 ≤ length report₀) (twelve : length values ≡ 12) where
-    pub filled-begin : Filled report₀ 0
+    pub filled-begin : ValuesWritten report₀ 0
     unfolding filled valueBytes
     filled-begin = record { passed = omega arith; done = sym (take-append-drop 8 report₀); same = refl }
 
@@ -71,9 +71,9 @@ module _ (report₀ : List ℕ) (values : List ℤ) where
         (head-length i h)
         ∙ after i h
 
-    module _ {report : List ℕ} {i : ℕ} (f : Filled report i) where
+    module _ {report : List ℕ} {i : ℕ} (f : ValuesWritten report i) where
       pub filled-more : {a b : ℕ} → i < 12 → a ≡ lowByte (getD values i (pos 0)) → b ≡ highByte (getD values i (pos 0))
-          → Filled (set (set report (2 * i + 8) a) (2 * i + 9) b) (i + 1)
+          → ValuesWritten (set (set report (2 * i + 8) a) (2 * i + 9) b) (i + 1)
       filled-more l is it =
           record {
             passed = omega arith;

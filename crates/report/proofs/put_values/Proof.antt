@@ -9,12 +9,12 @@ use lib.ListN.{length, getD, length-set}
 use mir.Syntax.{w16}
 use mir.Val.{SFits}
 use mir.Facts.{toZ-ofZ}
-use Rattle.report.proofs.Steps.Report.{Filled, filled-begin, filled-more, filled-end}
+use Rattle.report.proofs.Steps.Report.{ValuesWritten, filled-begin, filled-more, filled-end}
 use Rattle.report.proofs.put_values.Statement.{statement}
 use Rattle.report.proofs.put_values.Tie as tie
 
 abbrev Inv-loop : tie.InvT-loop
-Inv-loop report₀ values i₀ report i = Filled report₀ values report i
+Inv-loop report₀ values i₀ report i = ValuesWritten report₀ values report i
 
 abbrev μ-loop : tie.MeasureT-loop
 μ-loop report₀ values i₀ report i = 12 - i

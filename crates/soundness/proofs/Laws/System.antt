@@ -18,7 +18,7 @@ use Rattle.states.specs.State.{State}
 use Rattle.evaluating.specs.Transition.{enabledOf}
 use Rattle.evaluating.proofs.Laws.Readable as readable
 use Rattle.testing.specs.Holding.{guardHolds, valuesFit, nextState}
-use Rattle.runs.specs.Run.{finite, Position, at, enabled, Step, IsRun}
+use Rattle.runs.specs.Run.{finite, Position, at, enabled, Next, IsRun}
 use Rattle.soundness.specs.System.{systemOf}
 use Rattle.runs.proofs.Laws.Truth.{is-true}
 
@@ -30,7 +30,7 @@ module _ (file : List ℕ) (o : Outline) (r : readOf file ≡ Reading.Readable o
       states zero p = w
       states (suc n) p = absurd (omega arith)
 
-      steps : (n : ℕ) → Position (finite s []) (suc n) → Step (systemOf file o) (at (finite s []) n) (at (finite s []) (suc n))
+      steps : (n : ℕ) → Position (finite s []) (suc n) → Next (systemOf file o) (at (finite s []) n) (at (finite s []) (suc n))
       steps n p = absurd (omega arith)
 
   module _ (t : ℕ) (e : T (enabled (systemOf file o) t s)) where
@@ -47,6 +47,6 @@ module _ (file : List ℕ) (o : Outline) (r : readOf file ≡ Reading.Readable o
         states (suc (suc n)) p = absurd (omega arith)
 
         steps : (n : ℕ) → Position (finite s (nextState file o t s ∷ [])) (suc n)
-            → Step (systemOf file o) (at (finite s (nextState file o t s ∷ [])) n) (at (finite s (nextState file o t s ∷ [])) (suc n))
+            → Next (systemOf file o) (at (finite s (nextState file o t s ∷ [])) n) (at (finite s (nextState file o t s ∷ [])) (suc n))
         steps zero p = inr (t, l, (e, refl))
         steps (suc n) p = absurd (omega arith)

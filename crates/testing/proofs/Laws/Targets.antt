@@ -36,7 +36,7 @@ use Rattle.expressions.specs.Expression.{holdsOf}
 use Rattle.conditions.specs.Edges.{carries}
 use Rattle.testing.specs.Diagram.{nodeAt, nodeHolds, claimedAt, qAt}
 use Rattle.testing.specs.Holding.{someNode, someTarget}
-use Rattle.testing.specs.Testing.{marksOf, chosenFrom, nodesOf, transitionsOf, someHolds}
+use Rattle.testing.specs.Testing.{marksOf, chosenFrom, nodePlaces, transitionPlaces, someHolds}
 use Rattle.conditions.proofs.Laws.Each.{tabulate-at}
 use Rattle.conditions.proofs.Laws.Search.{or-second, any-at, any-same}
 
@@ -175,12 +175,12 @@ module _ (keep : Bool) (n edges edge : ℕ) (carried : ℕ → Bool) (to : ℕ �
 
 -- ---- the places of a readable file
 module _ (file : List ℕ) (o : Outline) (r : readOf file ≡ Reading.Readable o) where
-  pub node-at : (n : ℕ) → n < o .nodes → getD (nodesOf file o) n 0 ≡ nodeAt file o n
-  unfolding nodesOf nodeAt
+  pub node-at : (n : ℕ) → n < o .nodes → getD (nodePlaces file o) n 0 ≡ nodeAt file o n
+  unfolding nodePlaces nodeAt
   node-at n l = let m = readable.nodes-within file o r .1 in places-nth (nodeOf file (o .vars)) (o .nodes) (o .node) n (omega arith) l
 
-  pub transition-at : (t : ℕ) → t < o .transitions → getD (transitionsOf file o) t 0 ≡ transitionAt file o t
-  unfolding transitionsOf transitionAt
+  pub transition-at : (t : ℕ) → t < o .transitions → getD (transitionPlaces file o) t 0 ≡ transitionAt file o t
+  unfolding transitionPlaces transitionAt
   transition-at t l =
       let m = readable.transitions-within file o r in
       places-nth (transitionOf file (o .vars)) (o .transitions) (o .transition) t (omega arith) l
@@ -202,7 +202,7 @@ module _ (file : List ℕ) (o : Outline) (r : readOf file ≡ Reading.Readable o
   small : (at : ℕ) → at < length file / 8 → at ≤ 4096
   small at l = let m = readable.small file o r in omega arith
 
-  pub node-small : (n : ℕ) → n < o .nodes → getD (nodesOf file o) n 0 ≤ 4096
+  pub node-small : (n : ℕ) → n < o .nodes → getD (nodePlaces file o) n 0 ≤ 4096
   node-small n l =
       let x = readable.node file o r n l in
       rw (node-at n l, node-stands n l) (small (x .place) (kind-here file 0x06 (x .place) (x .named)))
@@ -246,7 +246,7 @@ module _ (file : List ℕ) (o : Outline) (r : readOf file ≡ Reading.Readable o
   module _ (state : List ℤ) where
     -- the assertion of node j, where the table has it
     abbrev listedHolds : ℕ → Bool
-    listedHolds j = holdsOf file (getD (nodesOf file o) j 0 + 1) state
+    listedHolds j = holdsOf file (getD (nodePlaces file o) j 0 + 1) state
 
     listed-is : (j : ℕ) → j < o .nodes → listedHolds j ≡ nodeHolds file o j state
     unfolding nodeHolds
@@ -257,10 +257,10 @@ module _ (file : List ℕ) (o : Outline) (r : readOf file ≡ Reading.Readable o
         let m = readable.nodes-within file o r .1 in
         ap (λ (b : Bool). b && listedHolds j) (getD-replicate {A = Bool} 32 j true false (omega arith)) ∙ listed-is j l
 
-    pub some-node : someHolds file (chosenFrom (replicate 32 true) (nodesOf file o) (o .nodes) 0) state ≡ someNode file o state
+    pub some-node : someHolds file (chosenFrom (replicate 32 true) (nodePlaces file o) (o .nodes) 0) state ≡ someNode file o state
     unfolding someNode
     some-node =
-        some-chosen file state (replicate 32 true) (nodesOf file o) (o .nodes) 0
+        some-chosen file state (replicate 32 true) (nodePlaces file o) (o .nodes) 0
         ∙ any-same (λ j. getD (replicate 32 true) j false && listedHolds j) (λ j. nodeHolds file o j state) (o .nodes) 0
         (λ i l. every (0 + i) (omega arith))
 
@@ -275,11 +275,11 @@ module _ (file : List ℕ) (o : Outline) (r : readOf file ≡ Reading.Readable o
       marked-holds : (j : ℕ) → j < o .nodes → (getD (marksOf file o n t keep) j false && listedHolds j) ≡ (marked j && nodeHolds file o j state)
       marked-holds j l = let m = readable.nodes-within file o r .1 in ap₂ _&&_ (marked-at j (omega arith)) (listed-is j l)
 
-      pub some-reached : n < o .nodes → someHolds file (chosenFrom (marksOf file o n t keep) (nodesOf file o) (o .nodes) 0) state
+      pub some-reached : n < o .nodes → someHolds file (chosenFrom (marksOf file o n t keep) (nodePlaces file o) (o .nodes) 0) state
           ≡ ((keep && nodeHolds file o n state) || someTarget file o n t state)
       unfolding someTarget
       some-reached l =
-          some-chosen file state (marksOf file o n t keep) (nodesOf file o) (o .nodes) 0
+          some-chosen file state (marksOf file o n t keep) (nodePlaces file o) (o .nodes) 0
           ∙ any-same (λ j. getD (marksOf file o n t keep) j false && listedHolds j) (λ j. marked j && nodeHolds file o j state) (o .nodes) 0
           (λ i m. marked-holds (0 + i) (omega arith))
           ∙ marked-some keep n (o .edges) (o .edge) (carries file n t) (fieldC file) (λ j. nodeHolds file o j state) (o .nodes) l

@@ -20,14 +20,14 @@ use Rattle.reading.specs.Read.{readOf}
 use Rattle.reading.proofs.Laws.Readable as readable
 use Rattle.expressions.specs.Expression.{holdsOf}
 use Rattle.states.specs.State.{lowsOf, highsOf, Within}
-use Rattle.evaluating.specs.Transition.{guardOf, assignmentsOf, allInRange, enabledOf, successorOf, TransitionFits}
+use Rattle.evaluating.specs.Transition.{guardOf, assignmentList, allInRange, enabledOf, successorOf, TransitionFits}
 use Rattle.evaluating.proofs.Laws.Readable as evaluable
 use Rattle.conditions.specs.Edges.{isDouble}
 use Rattle.testing.specs.Diagram.{nodeAt, nodeHolds, startHolds, claimedAt, pHolds, qAt, qHolds}
 use Rattle.conditions.specs.Condition.{Listed}
 use Rattle.runs.specs.Truth.{implies}
 use Rattle.testing.specs.Holding.{guardHolds, valuesFit, isEnabled, nextState, someNode, someTarget, conditionHolds}
-use Rattle.testing.specs.Testing.{marksOf, chosenFrom, targetsOf, chosenOf, nodesOf, preparedOf, testOf, someHolds, concludesOf, passesOf}
+use Rattle.testing.specs.Testing.{marksOf, chosenFrom, targetsOf, chosenOf, nodePlaces, preparedOf, testOf, someHolds, concludesOf, passesOf}
 use Rattle.testing.specs.Testing.{TruthFits, TestFits}
 use Rattle.conditions.specs.declared.Condition.{Condition}
 use Rattle.conditions.specs.declared.Condition.the-variants.{Start, Entry, Cover, Range, Step, Enabling}
@@ -93,10 +93,10 @@ module _ (file : List ℕ) (o : Outline) (r : readOf file ≡ Reading.Readable o
 
   -- the targets of start and entry, and of a step
   abbrev all : List ℕ
-  all = chosenFrom (replicate 32 true) (nodesOf file o) (o .nodes) 0
+  all = chosenFrom (replicate 32 true) (nodePlaces file o) (o .nodes) 0
 
   abbrev reachable : ℕ → ℕ → List ℕ
-  reachable n t = chosenFrom (marksOf file o n t (not (isDouble file o n t))) (nodesOf file o) (o .nodes) 0
+  reachable n t = chosenFrom (marksOf file o n t (not (isDouble file o n t))) (nodePlaces file o) (o .nodes) 0
 
   -- ---- what the tests say
   module _ (state : List ℤ) where
@@ -119,7 +119,7 @@ module _ (file : List ℕ) (o : Outline) (r : readOf file ≡ Reading.Readable o
     unfolding testOf conditionHolds passesOf preparedOf concludesOf nodeHolds guardHolds valuesFit enabledOf
     says-range n t =
         implies-range (holdsOf file (nodeAt file o n + 1) state) (guardOf file (transitionAt file o t) state)
-        (allInRange lows highs (assignmentsOf file (transitionAt file o t) state))
+        (allInRange lows highs (assignmentList file (transitionAt file o t) state))
 
     says : (c : Condition) → Parts file o c → passesOf lows highs file (testOf file o c) state ≡ conditionHolds file o c state
     unfolding testOf chosenOf conditionHolds passesOf preparedOf concludesOf startHolds pHolds nodeHolds qHolds isEnabled someHolds
@@ -142,14 +142,14 @@ module _ (file : List ℕ) (o : Outline) (r : readOf file ≡ Reading.Readable o
   pub transition-fits : (t : ℕ) → t < o .transitions → (state : List ℤ) → Within lows highs state → TransitionFits file (transitionAt file o t) state
   transition-fits t l state s = rw (transition-stands file o r t l) (evaluable.transition-fits file o r state s t l)
 
-  chosen-fit : (marks : List Bool) (i : ℕ) → i < length (chosenFrom marks (nodesOf file o) (o .nodes) 0)
-      → TruthFits lows highs file (getD (chosenFrom marks (nodesOf file o) (o .nodes) 0) i 0)
+  chosen-fit : (marks : List Bool) (i : ℕ) → i < length (chosenFrom marks (nodePlaces file o) (o .nodes) 0)
+      → TruthFits lows highs file (getD (chosenFrom marks (nodePlaces file o) (o .nodes) 0) i 0)
   chosen-fit marks i l =
-      chosen-each marks (nodesOf file o) (λ at. TruthFits lows highs file at) (o .nodes) 0
+      chosen-each marks (nodePlaces file o) (λ at. TruthFits lows highs file at) (o .nodes) 0
       (λ j a b. let m : j < o .nodes = omega arith in rw (node-at file o r j m) (node-fits j m)) i l
 
-  chosen-few : (marks : List Bool) → length (chosenFrom marks (nodesOf file o) (o .nodes) 0) ≤ 32
-  chosen-few marks = omega (arith, chosen-most marks (nodesOf file o) (o .nodes) 0, readable.nodes-within file o r .1)
+  chosen-few : (marks : List Bool) → length (chosenFrom marks (nodePlaces file o) (o .nodes) 0) ≤ 32
+  chosen-few marks = omega (arith, chosen-most marks (nodePlaces file o) (o .nodes) 0, readable.nodes-within file o r .1)
 
   pub q-fits : (n : ℕ) → n < o .nodes → (diagram file o ≡ 3 → n ≡ 0) → TruthFits lows highs file (qAt file o n)
   unfolding qAt
@@ -171,7 +171,7 @@ module _ (file : List ℕ) (o : Outline) (r : readOf file ≡ Reading.Readable o
       places-fit lows highs file (nodeAt file o n + 1) 0 (qAt file o n ∷ []) Conclusion.SomeTarget (node-fits n (p .0)) (omega arith)
       (only (qAt file o n) (q-fits n (p .0) (p .1))) (λ u. absurd (u refl))
   fits (Range n t) p =
-      places-fit lows highs file (nodeAt file o n + 1) (transitionAt file o t) [] Conclusion.InRange (node-fits n (p .0)) (omega arith)
+      places-fit lows highs file (nodeAt file o n + 1) (transitionAt file o t) [] Conclusion.ValuesInRange (node-fits n (p .0)) (omega arith)
       (λ i l. absurd (omega arith)) (λ u. transition-fits t (p .1))
   fits (Step n t) p =
       let marks = marksOf file o n t (not (isDouble file o n t)) in

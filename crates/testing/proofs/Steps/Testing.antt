@@ -23,7 +23,7 @@ use Rattle.reading.proofs.Laws.Readable as readable
 use Rattle.evaluating.specs.declared.Stepped.{Stepped}
 use Rattle.expressions.specs.Expression.{holdsOf}
 use Rattle.states.specs.State.{Within}
-use Rattle.evaluating.specs.Transition.{guardOf, assignmentsOf, allInRange, enabledOf, successorOf, stepOf}
+use Rattle.evaluating.specs.Transition.{guardOf, assignmentList, allInRange, enabledOf, successorOf, stepOf}
 use Rattle.evaluating.proofs.Laws.Transition.{assigned-within}
 use Rattle.conditions.specs.declared.Condition.{Condition}
 use Rattle.conditions.specs.declared.Condition.the-variants.{Start, Entry, Cover, Range, Step, Enabling}
@@ -34,7 +34,7 @@ use Rattle.conditions.specs.Edges.{isDouble}
 use Rattle.testing.specs.Diagram.{nodeAt, claimedAt, qAt}
 use Rattle.conditions.specs.Condition.{Listed}
 use Rattle.runs.specs.Truth.{implies}
-use Rattle.testing.specs.Testing.{marksOf, chosenFrom, targetsOf, chosenOf, nodesOf, transitionsOf, preparedOf, testOf}
+use Rattle.testing.specs.Testing.{marksOf, chosenFrom, targetsOf, chosenOf, nodePlaces, transitionPlaces, preparedOf, testOf}
 use Rattle.testing.specs.Testing.{someHolds, targetsListed, concludesOf, passesOf}
 use Rattle.conditions.specs.Layout.{doubleOf}
 use Rattle.conditions.specs.Edges.{pairAt}
@@ -264,7 +264,7 @@ implies-or false q = refl
 -- whether a conclusion speaks of a transition
 abbrev pub steps : Conclusion → Bool
 steps Conclusion.SomeTarget = false
-steps Conclusion.InRange = true
+steps Conclusion.ValuesInRange = true
 steps Conclusion.Reached = true
 steps Conclusion.Enabled = true
 
@@ -284,8 +284,8 @@ module _ (lows highs : List ℤ) (file : List ℕ) (at : ℕ) (state : List ℤ)
     pub next-within : Within lows highs state → Within lows highs (s .next)
     unfolding successorOf enabledOf
     next-within w =
-        let b = and-eq-true-iff (guardOf file at state) (allInRange lows highs (assignmentsOf file at state)) .0 (sym enabled-is ∙ e) in
-        rw next-is (assigned-within lows highs (assignmentsOf file at state) state w (b .1))
+        let b = and-eq-true-iff (guardOf file at state) (allInRange lows highs (assignmentList file at state)) .0 (sym enabled-is ∙ e) in
+        rw next-is (assigned-within lows highs (assignmentList file at state) state w (b .1))
 
 module _ (lows highs : List ℤ) (file : List ℕ) (test : Test) (state : List ℤ) where
   module _ {p : Bool} (is : p ≡ holdsOf file (test .premise) state) where
@@ -307,7 +307,7 @@ module _ (lows highs : List ℤ) (file : List ℕ) (test : Test) (state : List �
     enabled : s .enabled ≡ enabledOf lows highs file (test .transition) state
     enabled = enabled-is lows highs file (test .transition) state is
 
-    pub concludes-range : test .conclusion ≡ Conclusion.InRange
+    pub concludes-range : test .conclusion ≡ Conclusion.ValuesInRange
         → (not (s .guard) || s .enabled) ≡ concludesOf lows highs file test (test .conclusion) state
     unfolding concludesOf stepOf
     concludes-range k =
@@ -335,14 +335,14 @@ module _ (file : List ℕ) (o : Outline) where
   pub parts-of : {c d : Condition} → readOf file ≡ Reading.Readable o → Listed file o c → c ≡ d → Parts file o d
   parts-of {c} r listed e = subst (Parts file o) e (listed-parts file o r c listed)
 
-  module _ (r : readOf file ≡ Reading.Readable o) {nodes : List ℕ} (is : nodes ≡ nodesOf file o) where
+  module _ (r : readOf file ≡ Reading.Readable o) {nodes : List ℕ} (is : nodes ≡ nodePlaces file o) where
     pub nodes-small : (n : ℕ) → n < o .nodes → getD nodes n 0 ≤ 4096
     nodes-small n l = rw is (node-small file o r n l)
 
     nodes-at : (n : ℕ) → n < o .nodes → getD nodes n 0 ≡ nodeAt file o n
     nodes-at n l = rw is (node-at file o r n l)
 
-    transitions-at : {transitions : List ℕ} → transitions ≡ transitionsOf file o → (t : ℕ) → t < o .transitions
+    transitions-at : {transitions : List ℕ} → transitions ≡ transitionPlaces file o → (t : ℕ) → t < o .transitions
         → getD transitions t 0 ≡ transitionAt file o t
     transitions-at are t m = rw are (transition-at file o r t m)
 
@@ -363,9 +363,9 @@ module _ (file : List ℕ) (o : Outline) where
         unfolding testOf
         test-cover e q a = rw (e, q, a, nodes-at n l)
 
-        module _ {transitions : List ℕ} (are : transitions ≡ transitionsOf file o) {t : ℕ} (m : t < o .transitions) where
+        module _ {transitions : List ℕ} (are : transitions ≡ transitionPlaces file o) {t : ℕ} (m : t < o .transitions) where
           pub test-range : c ≡ Range n t → {q : Targets} → q ≡ targetsOf []
-              → preparedOf (getD nodes n 0 + 1) Conclusion.InRange (getD transitions t 0) q ≡ testOf file o c
+              → preparedOf (getD nodes n 0 + 1) Conclusion.ValuesInRange (getD transitions t 0) q ≡ testOf file o c
           unfolding testOf
           test-range e q = rw (e, q, nodes-at n l, transitions-at are t m)
 

@@ -28,7 +28,7 @@ use Rattle.reading.proofs.Laws.Readable as readable
 use Rattle.evaluating.specs.declared.Stepped.{Stepped}
 use Rattle.expressions.specs.Expression.{partAt, holdsOf, Fits}
 use Rattle.states.specs.State.{lowsOf, highsOf, State}
-use Rattle.evaluating.specs.Transition.{guardOf, assignmentsOf, allInRange, enabledOf, successorOf, stepOf}
+use Rattle.evaluating.specs.Transition.{guardOf, assignmentList, allInRange, enabledOf, successorOf, stepOf}
 use Rattle.evaluating.proofs.Laws.Readable as evaluable
 use Rattle.conditions.specs.Edges.{carries, isDouble}
 use Rattle.testing.specs.Diagram.{nodeHolds, startHolds, claimedAt, pHolds, qAt, qHolds}
@@ -36,9 +36,9 @@ use Rattle.conditions.specs.Condition.{each, movesOf, totalOf, conditionAt}
 use Rattle.runs.specs.Truth.{implies}
 use Rattle.testing.specs.Holding.{guardHolds, valuesFit, isEnabled, nextState, someNode, someTarget, conditionHolds}
 use Rattle.conditions.specs.Layout.{openingOf, layoutOf}
-use Rattle.testing.specs.Testing.{nodesOf, transitionsOf}
-use Rattle.conditions.specs.Search.{first}
-use Rattle.verdicts.specs.Verdict.{statesOf, stateAt, isTrue}
+use Rattle.testing.specs.Testing.{nodePlaces, transitionPlaces}
+use Rattle.conditions.specs.Search.{firstFailing}
+use Rattle.verdicts.specs.Verdict.{stateCount, stateAt, isTrue}
 use Rattle.conditions.specs.Edges.{pairAt}
 use Rattle.verdicts.specs.Acceptance.{every, allHold, blockOf, blockHolds, trueBlocksOf, heldStatesOf, conditionsIn, edgeMarksOf, doubleMarksOf, qPlacesOf, openingAt, heldNodesOf}
 use Rattle.verdicts.specs.Acceptance.{openingHolds, coversHold, reachedOf, pairHolds, nodesHold, transitionsHold}
@@ -125,7 +125,7 @@ module _ (file : List ℕ) (o : Outline) (state : List ℤ) where
 -- ---- a readable file at a state
 module _ (file : List ℕ) (o : Outline) (r : readOf file ≡ Reading.Readable o) where
   abbrev nodes : List ℕ
-  nodes = nodesOf file o
+  nodes = nodePlaces file o
 
   abbrev lows : List ℤ
   lows = lowsOf file (o .vars)
@@ -228,7 +228,7 @@ module _ (file : List ℕ) (o : Outline) (r : readOf file ≡ Reading.Readable o
 
   module _ (state : List ℤ) where
     abbrev stepped : ℕ → Stepped
-    stepped t = stepOf lows highs file (getD (transitionsOf file o) t 0) state
+    stepped t = stepOf lows highs file (getD (transitionPlaces file o) t 0) state
 
     abbrev pairs : ℕ → ℕ → Bool
     pairs t n =
@@ -248,7 +248,7 @@ module _ (file : List ℕ) (o : Outline) (r : readOf file ≡ Reading.Readable o
     unfolding movesOf allHold conditionHolds guardHolds valuesFit isEnabled nextState enabledOf
     moves-do n t =
         let at = transitionAt file o t in
-        moves-by file o state n t (nodeHolds file o n state) (guardOf file at state) (allInRange lows highs (assignmentsOf file at state))
+        moves-by file o state n t (nodeHolds file o n state) (guardOf file at state) (allInRange lows highs (assignmentList file at state))
         (isDouble file o n t) (nodeHolds file o n) (someTarget file o n t) (successorOf file at state) refl refl
 
     does-same : (n t : ℕ) (K R : List ℤ → Bool) → ((s : List ℤ) → K s ≡ nodeHolds file o n s) → ((s : List ℤ) → R s ≡ someTarget file o n t s)
@@ -269,7 +269,7 @@ module _ (file : List ℕ) (o : Outline) (r : readOf file ≡ Reading.Readable o
         ∙ sym (moves-do n t))
 
     transitions-are : (from end : ℕ) → end ≤ o .nodes
-        → transitionsHold lows highs file nodes (transitionsOf file o) (edgeMarksOf file o) (doubleMarksOf file o) (held state) from end (o .nodes)
+        → transitionsHold lows highs file nodes (transitionPlaces file o) (edgeMarksOf file o) (doubleMarksOf file o) (held state) from end (o .nodes)
         (o .transitions) state
         ≡ every (λ n. every (λ t. allHold file o (movesOf file o n t) state) (o .transitions) 0) (end - from) from
     unfolding transitionsHold nodesHold
@@ -298,7 +298,7 @@ module _ (file : List ℕ) (o : Outline) (r : readOf file ≡ Reading.Readable o
     pub blocks-parts : (end : ℕ) → end ≤ o .nodes → every (λ i. blockHolds file o i state) (1 + (end - from)) 0
         ≡ (openingHolds file (openingAt file o) (held state) (o .nodes) state
         && (coversHold file (qPlacesOf file o covers) (held state) covers state
-        && transitionsHold lows highs file nodes (transitionsOf file o) (edgeMarksOf file o) (doubleMarksOf file o) (held state) from end
+        && transitionsHold lows highs file nodes (transitionPlaces file o) (edgeMarksOf file o) (doubleMarksOf file o) (held state) from end
         (o .nodes) (o .transitions) state))
     unfolding every
     blocks-parts end most =
@@ -337,7 +337,7 @@ module _ (file : List ℕ) (o : Outline) (r : readOf file ≡ Reading.Readable o
           each = λ n l. let p = cover-parts file o r (Cover n) n l refl in rw (place-at n l) (q-fits file o r n (p .0) (p .1) state s);
         }
 
-  pub pass-fits : PassFits lows highs file nodes (o .nodes) (transitionsOf file o) (o .transitions)
+  pub pass-fits : PassFits lows highs file nodes (o .nodes) (transitionPlaces file o) (o .transitions)
   pass-fits =
       record {
         assertions = λ state s. nodes-fit state s;
@@ -347,7 +347,7 @@ module _ (file : List ℕ) (o : Outline) (r : readOf file ≡ Reading.Readable o
 
   -- ---- true blocks
   abbrev truth-of : ℕ → Bool
-  truth-of i = every (λ n. blockHolds file o i (stateAt file o n)) (statesOf file o) 0
+  truth-of i = every (λ n. blockHolds file o i (stateAt file o n)) (stateCount file o) 0
 
   pub blocks-most : trueBlocksOf file o ≤ 1 + (o .nodes - layoutOf file o .from)
   unfolding trueBlocksOf
@@ -359,7 +359,7 @@ module _ (file : List ℕ) (o : Outline) (r : readOf file ≡ Reading.Readable o
       true-at file o c
       (λ n h.
       all-member file o (stateAt file o n) c (blockOf file o i)
-      (every-at (λ n. blockHolds file o i (stateAt file o n)) (statesOf file o) 0 n
+      (every-at (λ n. blockHolds file o i (stateAt file o n)) (stateCount file o) 0 n
       (first-passes truth-of (1 + (o .nodes - layoutOf file o .from)) i l) (omega arith) (omega arith))
       m)
 
@@ -446,28 +446,28 @@ module _ (file : List ℕ) (o : Outline) (r : readOf file ≡ Reading.Readable o
   held-none l = rw (le-ltb (trueBlocksOf file o) count l)
 
   module _ (l : trueBlocksOf file o < count) where
-    held-some : heldStatesOf file o ≡ first next-holds (statesOf file o)
+    held-some : heldStatesOf file o ≡ firstFailing next-holds (stateCount file o)
     unfolding heldStatesOf
     held-some = rw (lt-ltb (trueBlocksOf file o) count l)
 
-    next-broken : first next-holds (statesOf file o) < statesOf file o
+    next-broken : firstFailing next-holds (stateCount file o) < stateCount file o
     unfolding trueBlocksOf
-    next-broken = every-first next-holds (statesOf file o) (first-fails truth-of count l)
+    next-broken = every-first next-holds (stateCount file o) (first-fails truth-of count l)
 
     -- up to the first state that breaks it, that block holds, and so do those before it
-    up-to : (i n : ℕ) → i ≤ trueBlocksOf file o → n < first next-holds (statesOf file o) → blockHolds file o i (stateAt file o n) ≡ true
+    up-to : (i n : ℕ) → i ≤ trueBlocksOf file o → n < firstFailing next-holds (stateCount file o) → blockHolds file o i (stateAt file o n) ≡ true
     unfolding trueBlocksOf
     up-to i n m h = go (decLt i (trueBlocksOf file o))
       where
         go : Dec (i < trueBlocksOf file o) → blockHolds file o i (stateAt file o n) ≡ true
         go (yes q) =
-            every-at (λ n. blockHolds file o i (stateAt file o n)) (statesOf file o) 0 n (first-passes truth-of count i q) (omega arith)
+            every-at (λ n. blockHolds file o i (stateAt file o n)) (stateCount file o) 0 n (first-passes truth-of count i q) (omega arith)
             (omega (arith, next-broken))
-        go (no q) = let same : i ≡ trueBlocksOf file o = omega arith in rw same (first-passes next-holds (statesOf file o) n h)
+        go (no q) = let same : i ≡ trueBlocksOf file o = omega arith in rw same (first-passes next-holds (stateCount file o) n h)
 
   pub blocks-begun : Begun file o (conditionsIn (layoutOf file o) (trueBlocksOf file o)) (conditionsIn (layoutOf file o) (trueBlocksOf file o + 1))
       (heldStatesOf file o)
-  unfolding blockHolds statesOf
+  unfolding blockHolds stateCount
   blocks-begun =
       record {
         searched = blocks-searched;
@@ -475,7 +475,7 @@ module _ (file : List ℕ) (o : Outline) (r : readOf file ≡ Reading.Readable o
         each = λ k n l there m. holds k n (rw add-one at l) there m (decLt (trueBlocksOf file o) count);
       }
     where
-      below : Dec (trueBlocksOf file o < count) → heldStatesOf file o < statesOf file o
+      below : Dec (trueBlocksOf file o < count) → heldStatesOf file o < stateCount file o
       below (yes l) = rw (held-some l) (next-broken l)
       below (no l) = rw (held-none (omega arith)) (evaluable.states-within file o r .0)
 

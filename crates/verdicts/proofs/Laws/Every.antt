@@ -13,7 +13,7 @@ use Prim.Native.Nat.{ℕ, zero, suc, _+_, _≤_, _<_}
 use native.Mathlib.Decide.{decLt}
 use native.Mathlib.Omega.{arith}
 use Rattle.records.specs.Search.{any}
-use Rattle.conditions.specs.Search.{first}
+use Rattle.conditions.specs.Search.{firstFailing}
 use Rattle.verdicts.specs.Acceptance.{every}
 use Rattle.conditions.proofs.Laws.Search.{first-passes}
 
@@ -43,10 +43,10 @@ module _ (test : ℕ → Bool) where
       go true is = absurd (false≢true (sym e ∙ every-at n at k is p q))
       go false is = refl
 
-  pub every-first : (n : ℕ) → every test n 0 ≡ false → first test n < n
-  every-first n e = go (decLt (first test n) n)
+  pub every-first : (n : ℕ) → every test n 0 ≡ false → firstFailing test n < n
+  every-first n e = go (decLt (firstFailing test n) n)
     where
-      go : Dec (first test n < n) → first test n < n
+      go : Dec (firstFailing test n < n) → firstFailing test n < n
       go (yes l) = l
       go (no l) = absurd (false≢true (sym e ∙ every-true n 0 (λ k p q. first-passes test n k (omega arith))))
 

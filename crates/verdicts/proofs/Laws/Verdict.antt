@@ -23,7 +23,7 @@ use Rattle.states.specs.Number.{numberOf}
 use Rattle.evaluating.proofs.Laws.Readable.{numbered, number}
 use Rattle.conditions.specs.Condition.{conditionsOf, totalOf, conditionAt, Listed, refusalNumber, nodeNumber, transitionNumber}
 use Rattle.testing.specs.Holding.{conditionHolds}
-use Rattle.verdicts.specs.Verdict.{statesOf, stateAt, unnamedOf, namedOf, breakingOf, isTrue, brokenOf, judgedOf}
+use Rattle.verdicts.specs.Verdict.{stateCount, stateAt, unnamedOf, namedOf, breakingOf, isTrue, brokenOf, judgedOf}
 use Rattle.conditions.specs.declared.Condition.{Condition}
 use Rattle.conditions.specs.declared.Condition.the-variants.{Start, Entry, Cover, Range, Step, Enabling}
 use Rattle.report.specs.declared.Verdict.{Verdict}
@@ -52,21 +52,21 @@ module _ (file : List ℕ) (o : Outline) where
   true-of k = isTrue file o (conditionAt file o k)
 
   -- ---- one condition
-  pub true-at : (c : Condition) → ((n : ℕ) → n < statesOf file o → conditionHolds file o c (stateAt file o n) ≡ true) → isTrue file o c ≡ true
+  pub true-at : (c : Condition) → ((n : ℕ) → n < stateCount file o → conditionHolds file o c (stateAt file o n) ≡ true) → isTrue file o c ≡ true
   unfolding isTrue breakingOf
   true-at c h =
-      let s = statesOf file o in
+      let s = stateCount file o in
       rw (first-is (holds-at c) s s (le-refl s) h (λ l. absurd (lt-irrefl s l))) (le-leb s s (le-refl s))
 
-  module _ (c : Condition) (n : ℕ) (l : n < statesOf file o) (before : (k : ℕ) → k < n → conditionHolds file o c (stateAt file o k) ≡ true)
+  module _ (c : Condition) (n : ℕ) (l : n < stateCount file o) (before : (k : ℕ) → k < n → conditionHolds file o c (stateAt file o k) ≡ true)
       (fails : conditionHolds file o c (stateAt file o n) ≡ false) where
     pub breaks-at : breakingOf file o c ≡ n
     unfolding breakingOf
-    breaks-at = first-is (holds-at c) (statesOf file o) n (le-of-lt l) before (λ k. fails)
+    breaks-at = first-is (holds-at c) (stateCount file o) n (le-of-lt l) before (λ k. fails)
 
     not-true : isTrue file o c ≡ false
     unfolding isTrue
-    not-true = rw breaks-at (lt-leb (statesOf file o) n l)
+    not-true = rw breaks-at (lt-leb (stateCount file o) n l)
 
   -- ---- the verdict
   pub judged-whole : ((k : ℕ) → k < totalOf file o → isTrue file o (conditionAt file o k) ≡ true) → judgedOf file o ≡ unnamedOf 0 (totalOf file o)
@@ -76,7 +76,7 @@ module _ (file : List ℕ) (o : Outline) where
       rw (first-is true-of t t (le-refl t) h (λ l. absurd (lt-irrefl t l)), le-ltb t t (le-refl t))
 
   pub judged-broken : (k : ℕ) → k < totalOf file o → ((j : ℕ) → j < k → isTrue file o (conditionAt file o j) ≡ true)
-      → (n : ℕ) → n < statesOf file o → ((j : ℕ) → j < n → conditionHolds file o (conditionAt file o k) (stateAt file o j) ≡ true)
+      → (n : ℕ) → n < stateCount file o → ((j : ℕ) → j < n → conditionHolds file o (conditionAt file o k) (stateAt file o j) ≡ true)
       → conditionHolds file o (conditionAt file o k) (stateAt file o n) ≡ false
       → judgedOf file o ≡ namedOf (conditionAt file o k) k (stateAt file o n)
   unfolding judgedOf brokenOf
@@ -116,14 +116,14 @@ module _ (file : List ℕ) (o : Outline) where
 
   module _ (r : readOf file ≡ Reading.Readable o) where
     pub true-everywhere : (c : Condition) → isTrue file o c ≡ true → Everywhere c
-    unfolding isTrue breakingOf statesOf stateAt
+    unfolding isTrue breakingOf stateCount stateAt
     true-everywhere c t state s =
         let n = number file o r state s in
         let k = numberOf (lowsOf file (o .vars)) (highsOf file (o .vars)) state in
-        rw (n .1) at (first-passes (holds-at c) (statesOf file o) k (lt-of-lt-of-le (n .0) (leb-true _ _ t)))
+        rw (n .1) at (first-passes (holds-at c) (stateCount file o) k (lt-of-lt-of-le (n .0) (leb-true _ _ t)))
 
     pub everywhere-true : (c : Condition) → Everywhere c → isTrue file o c ≡ true
-    unfolding statesOf stateAt
+    unfolding stateCount stateAt
     everywhere-true c h = true-at c (λ n l. h (stateAt file o n) (numbered file o r n l .0))
 
     -- ---- acceptance
@@ -142,9 +142,9 @@ module _ (file : List ℕ) (o : Outline) where
 
     -- ---- refusal
     names : brokenOf file o < totalOf file o → Names named
-    unfolding namedOf brokenOf isTrue breakingOf statesOf stateAt
+    unfolding namedOf brokenOf isTrue breakingOf stateCount stateAt
     names l =
-        let s = leb-false (statesOf file o) (breakingOf file o broken) (first-fails true-of (totalOf file o) l) in
+        let s = leb-false (stateCount file o) (breakingOf file o broken) (first-fails true-of (totalOf file o) l) in
         let n = numbered file o r (breakingOf file o broken) s in
         record {
           number = refl;
@@ -153,8 +153,8 @@ module _ (file : List ℕ) (o : Outline) where
           below = l;
           before = λ k j. true-everywhere (conditionAt file o k) (first-passes true-of (totalOf file o) k j);
           state = n .0;
-          first = λ k j. first-passes (holds-at broken) (statesOf file o) k (rw (n .1) at j);
-          breaks = first-fails (holds-at broken) (statesOf file o) s;
+          first = λ k j. first-passes (holds-at broken) (stateCount file o) k (rw (n .1) at j);
+          breaks = first-fails (holds-at broken) (stateCount file o) s;
         }
 
     pub refused : (judgedOf file o .number ≡ 0 → ⊥) → Names (judgedOf file o)

@@ -18,8 +18,8 @@ use Rattle.reading.proofs.Laws.Readable.{nodes-within}
 use Rattle.expressions.specs.Expression.{partAt, Fits, Spans}
 use Rattle.states.specs.State.{State, Within}
 use Rattle.conditions.specs.Layout.{layoutOf}
-use Rattle.conditions.specs.Search.{first}
-use Rattle.verdicts.specs.Verdict.{statesOf, stateAt}
+use Rattle.conditions.specs.Search.{firstFailing}
+use Rattle.verdicts.specs.Verdict.{stateCount, stateAt}
 use Rattle.verdicts.specs.Acceptance.{every, blockHolds, heldBlocksOf, trueBlocksOf, heldStatesOf, foundOf, conditionsIn, heldNodesOf}
 use Rattle.verdicts.specs.Acceptance.{openingHolds, coversHold, nodesHold, transitionsHold}
 use Rattle.verdicts.specs.Acceptance.{NodesFit, PlacesFit, PassFits, LookedUp, Tables, Begun}
@@ -148,7 +148,7 @@ module _ (file : List ℕ) (o : Outline) where
 
   -- so many blocks hold in the first n states
   abbrev pub heldFor : ℕ → ℕ
-  heldFor n = first (λ i. every (blockAt i) n 0) (1 + (o .nodes - layoutOf file o .from))
+  heldFor n = firstFailing (λ i. every (blockAt i) n 0) (1 + (o .nodes - layoutOf file o .from))
 
   pub held-most : (n : ℕ) → heldFor n ≤ 1 + (o .nodes - layoutOf file o .from)
   held-most n = first-most (λ i. every (blockAt i) n 0) (1 + (o .nodes - layoutOf file o .from))
@@ -194,7 +194,7 @@ module _ (file : List ℕ) (o : Outline) where
       kept-is : kept ≡ heldFor (n + 1)
       kept-is = e ∙ rw (is, f .held-is) (held-more n)
 
-      kept-first : kept ≡ first (λ i. blockAt i n) held
+      kept-first : kept ≡ firstFailing (λ i. blockAt i n) held
       unfolding heldBlocksOf
       kept-first = rw is at e
 
@@ -212,7 +212,7 @@ module _ (file : List ℕ) (o : Outline) where
 
       pub finding-same : held ≤ kept → Finding kept from (n + 1)
       finding-same l =
-          let m : first (λ i. blockAt i n) held ≤ held = first-most (λ i. blockAt i n) held in
+          let m : firstFailing (λ i. blockAt i n) held ≤ held = first-most (λ i. blockAt i n) held in
           let same : kept ≡ held = omega (arith, kept-first) in
           record {
             held-is = kept-is;
@@ -222,7 +222,7 @@ module _ (file : List ℕ) (o : Outline) where
             breaks = rw same (f .breaks);
           }
 
-    module _ (all : n ≡ statesOf file o) where
+    module _ (all : n ≡ stateCount file o) where
       blocks-are : held ≡ trueBlocksOf file o
       unfolding trueBlocksOf
       blocks-are = f .held-is ∙ ap heldFor all
@@ -231,10 +231,10 @@ module _ (file : List ℕ) (o : Outline) where
       unfolding heldStatesOf
       states-are = rw (← blocks-are) (go (decLt held count))
         where
-          go : Dec (held < count) → from ≡ cond (ltb held count) (first (blockAt held) (statesOf file o)) 0
+          go : Dec (held < count) → from ≡ cond (ltb held count) (firstFailing (blockAt held) (stateCount file o)) 0
           go (yes l) =
               rw (lt-ltb held count l)
-              (sym (first-is (blockAt held) (statesOf file o) from (omega (arith, f .within l)) (f .before l) (λ m. f .breaks l)))
+              (sym (first-is (blockAt held) (stateCount file o) from (omega (arith, f .within l)) (f .before l) (λ m. f .breaks l)))
           go (no l) = rw (le-ltb held count (omega arith)) (f .whole (omega arith))
 
       pub finding-end : _≡_ {A = Found} (record { blocks = held; states = from }) (foundOf file o)

@@ -21,11 +21,11 @@ use Rattle.states.specs.State.{lowsOf, highsOf, Ranges, Within, State, Idle}
 use Rattle.states.specs.Number.{countOf, stateOf, advanceOf}
 use Rattle.expressions.proofs.Laws.Span.{spans-right}
 use Rattle.states.proofs.Laws.State.{states-idle}
-use Rattle.evaluating.proofs.Laws.Readable.{ranges, states-within, numbered, first, next}
+use Rattle.evaluating.proofs.Laws.Readable.{ranges, states-within, numbered, state-zero, next}
 use Rattle.conditions.specs.Condition.{totalOf, conditionAt, Listed, nodeNumber, transitionNumber}
 use Rattle.testing.specs.Holding.{conditionHolds}
-use Rattle.testing.specs.Testing.{nodesOf, transitionsOf, testOf, passesOf, TestFits}
-use Rattle.verdicts.specs.Verdict.{statesOf, stateAt, unnamedOf, namedOf, judgedOf, testedOf}
+use Rattle.testing.specs.Testing.{nodePlaces, transitionPlaces, testOf, passesOf, TestFits}
+use Rattle.verdicts.specs.Verdict.{stateCount, stateAt, unnamedOf, namedOf, judgedOf, singleJudged}
 use Rattle.verdicts.specs.Acceptance.{LookedUp, Searched, Begun}
 use Rattle.conditions.specs.declared.Condition.{Condition}
 use Rattle.conditions.specs.declared.Condition.the-variants.{Start, Entry, Cover, Range, Step, Enabling}
@@ -36,8 +36,8 @@ use Rattle.testing.proofs.Laws.Testing.{prepared, test-fits}
 use Rattle.verdicts.proofs.Laws.Verdict.{true-at, judged-broken, judged-whole}
 
 pub count-is : (file : List ℕ) (o : Outline) {low high : List ℤ} {states : ℕ} → low ≡ lowsOf file (o .vars) → high ≡ highsOf file (o .vars)
-    → states ≡ countOf low high → states ≡ statesOf file o
-unfolding statesOf
+    → states ≡ countOf low high → states ≡ stateCount file o
+unfolding stateCount
 count-is file o l h e = rw (← l, ← h) e
 
 -- ---- what is asked before the search
@@ -77,18 +77,18 @@ module _ (file : List ℕ) (o : Outline) (r : readOf file ≡ Reading.Readable o
 
 -- ---- the single test
 module _ (file : List ℕ) (o : Outline) (condition state : ℕ) where
-  pub tested-eleven : totalOf file o ≤ condition → testedOf file o condition state ≡ Single.Refused 11 0
-  unfolding testedOf
+  pub tested-eleven : totalOf file o ≤ condition → singleJudged file o condition state ≡ Single.Refused 11 0
+  unfolding singleJudged
   tested-eleven l = rw (le-leb _ _ l)
 
-  pub tested-twelve : condition < totalOf file o → statesOf file o ≤ state → testedOf file o condition state ≡ Single.Refused 12 0
-  unfolding testedOf
+  pub tested-twelve : condition < totalOf file o → stateCount file o ≤ state → singleJudged file o condition state ≡ Single.Refused 12 0
+  unfolding singleJudged
   tested-twelve l m = rw (lt-leb _ _ l, le-leb _ _ m)
 
-  tested-whole : condition < totalOf file o → state < statesOf file o → {b : Bool}
+  tested-whole : condition < totalOf file o → state < stateCount file o → {b : Bool}
       → b ≡ conditionHolds file o (conditionAt file o condition) (stateAt file o state)
-      → testedOf file o condition state ≡ cond b Single.Holds Single.Fails
-  unfolding testedOf
+      → singleJudged file o condition state ≡ cond b Single.Holds Single.Fails
+  unfolding singleJudged
   tested-whole l m e = rw (lt-leb _ _ l, lt-leb _ _ m, ← e)
 
 -- what is at hand before the search
@@ -97,14 +97,14 @@ pub record Ready (file : List ℕ) (o : Outline) (low high : List ℤ) (states :
   pub low-is : low ≡ lowsOf file (o .vars)
   pub high-is : high ≡ highsOf file (o .vars)
   pub states-are : states ≡ countOf low high
-  pub nodes-are : nodes ≡ nodesOf file o
-  pub transitions-are : transitions ≡ transitionsOf file o
+  pub nodes-are : nodes ≡ nodePlaces file o
+  pub transitions-are : transitions ≡ transitionPlaces file o
   pub total-is : total ≡ totalOf file o
 
 pub looked-ready : {file : List ℕ} {o : Outline} {spans : List ℕ} {low high : List ℤ} {states : ℕ} {nodes transitions : List ℕ} {total : ℕ}
-    → LookedUp file o spans low high nodes transitions → states ≡ statesOf file o → total ≡ totalOf file o
+    → LookedUp file o spans low high nodes transitions → states ≡ stateCount file o → total ≡ totalOf file o
     → Ready file o low high states nodes transitions total
-unfolding statesOf
+unfolding stateCount
 looked-ready k s t =
     record {
       readable = k .readable;
@@ -119,35 +119,35 @@ looked-ready k s t =
 -- ---- the loops
 module _ (file : List ℕ) (o : Outline) where
   -- n states are passed, in each of which the test holds; `state` is the next, as long as there is one
-  pub record Passed (test : List ℤ → Bool) (state : List ℤ) (n : ℕ) : Type 0 where
-    pub passed : n ≤ statesOf file o
-    pub here : n < statesOf file o → state ≡ stateAt file o n
+  pub record StatesPassed (test : List ℤ → Bool) (state : List ℤ) (n : ℕ) : Type 0 where
+    pub passed : n ≤ stateCount file o
+    pub here : n < stateCount file o → state ≡ stateAt file o n
     pub held : (k : ℕ) → k < n → test (stateAt file o k) ≡ true
 
   -- the search was left at a state that breaks the condition
   pub record Broke (number : ℕ) (state : List ℤ) : Type 0 where
     pub at : ℕ
-    pub below : at < statesOf file o
+    pub below : at < stateCount file o
     pub is : state ≡ stateAt file o at
     pub held : (k : ℕ) → k < at → conditionHolds file o (conditionAt file o number) (stateAt file o k) ≡ true
     pub breaks : conditionHolds file o (conditionAt file o number) (stateAt file o at) ≡ false
 
 -- ---- one state after the other
 module _ (file : List ℕ) (o : Outline) {low high : List ℤ} {states : ℕ} (r : readOf file ≡ Reading.Readable o)
-    (low-is : low ≡ lowsOf file (o .vars)) (high-is : high ≡ highsOf file (o .vars)) (states-are : states ≡ statesOf file o) where
-  pub pass-begin : {test : List ℤ → Bool} → Passed file o test low 0
+    (low-is : low ≡ lowsOf file (o .vars)) (high-is : high ≡ highsOf file (o .vars)) (states-are : states ≡ stateCount file o) where
+  pub pass-begin : {test : List ℤ → Bool} → StatesPassed file o test low 0
   unfolding stateAt
-  pass-begin = record { passed = omega arith; here = λ l. low-is ∙ sym (first file o r); held = λ k l. absurd (omega arith) }
+  pass-begin = record { passed = omega arith; here = λ l. low-is ∙ sym (state-zero file o r); held = λ k l. absurd (omega arith) }
 
   module _ {n : ℕ} (l : n < states) where
-    pub number-below : n < statesOf file o
+    pub number-below : n < stateCount file o
     number-below = rw (← states-are) l
 
     pub at-within : State file (o .vars) (stateAt file o n)
-    unfolding statesOf stateAt
+    unfolding stateCount stateAt
     at-within = numbered file o r n number-below .0
 
-    module _ {test : List ℤ → Bool} {state : List ℤ} (p : Passed file o test state n) where
+    module _ {test : List ℤ → Bool} {state : List ℤ} (p : StatesPassed file o test state n) where
       pub pass-state : state ≡ stateAt file o n
       pass-state = p .here number-below
 
@@ -160,8 +160,8 @@ module _ (file : List ℕ) (o : Outline) {low high : List ℤ} {states : ℕ} (r
       pub pass-here : {b : Bool} → test state ≡ b → test (stateAt file o n) ≡ b
       pass-here f = rw (p .here number-below) at f
 
-      pub pass-more : test state ≡ true → {after : List ℤ} → after ≡ advanceOf low high state → Passed file o test after (n + 1)
-      unfolding statesOf stateAt
+      pub pass-more : test state ≡ true → {after : List ℤ} → after ≡ advanceOf low high state → StatesPassed file o test after (n + 1)
+      unfolding stateCount stateAt
       pass-more f e =
           let m = number-below in
           record {
@@ -178,7 +178,7 @@ module _ {file : List ℕ} {o : Outline} {low high : List ℤ} {states : ℕ} {n
   pub total-small : total ≤ 2081
   total-small = rw (h .total-is) (total-most file o (h .readable))
 
-  states-all : states ≡ statesOf file o
+  states-all : states ≡ stateCount file o
   states-all = count-is file o (h .low-is) (h .high-is) (h .states-are)
 
   -- ---- the state of a number
@@ -193,11 +193,11 @@ module _ {file : List ℕ} {o : Outline} {low high : List ℤ} {states : ℕ} {n
   abbrev pub holdsAt : ℕ → List ℤ → Bool
   holdsAt number state = conditionHolds file o (conditionAt file o number) state
 
-  pub passed-begin : (number : ℕ) → Passed file o (holdsAt number) low 0
+  pub passed-begin : (number : ℕ) → StatesPassed file o (holdsAt number) low 0
   passed-begin number = pass-begin file o (h .readable) (h .low-is) (h .high-is) states-all
 
   pub passed-from : {number sure end from : ℕ} → number < total → Begun file o sure end from → number < end → {state : List ℤ}
-      → state ≡ stateOf low high from → Passed file o (holdsAt number) state from
+      → state ≡ stateOf low high from → StatesPassed file o (holdsAt number) state from
   passed-from {number} {sure} {end} {from} l b m e =
       let f = b .below in
       record {
@@ -210,7 +210,7 @@ module _ {file : List ℕ} {o : Outline} {low high : List ℤ} {states : ℕ} {n
     listed : Listed file o c
     listed = rw is (condition-listed file o (h .readable) number (rw (← h .total-is) below))
 
-    pub test-asks : (readOf file ≡ Reading.Readable o) × ((nodes ≡ nodesOf file o) × ((transitions ≡ transitionsOf file o) × Listed file o c))
+    pub test-asks : (readOf file ≡ Reading.Readable o) × ((nodes ≡ nodePlaces file o) × ((transitions ≡ transitionPlaces file o) × Listed file o c))
     test-asks = (h .readable, (h .nodes-are, (h .transitions-are, listed)))
 
     pub named-asks : (nodeNumber c ≤ 255) × (transitionNumber c ≤ 255)
@@ -228,12 +228,12 @@ module _ {file : List ℕ} {o : Outline} {low high : List ℤ} {states : ℕ} {n
         pub single-asks : Within low high state × TestFits low high file test
         single-asks = passes-asks (rw (state-is n e) (at-within file o (h .readable) (h .low-is) (h .high-is) states-all l))
 
-        pub single-answers : {b : Bool} → b ≡ passesOf low high file test state → testedOf file o number n ≡ cond b Single.Holds Single.Fails
+        pub single-answers : {b : Bool} → b ≡ passesOf low high file test state → singleJudged file o number n ≡ cond b Single.Holds Single.Fails
         single-answers f =
             tested-whole file o number n (rw (← h .total-is) below) (rw (← states-all) l) (rw (state-is n e) at (f ∙ passes-is state))
 
       -- one test after the other
-      module _ {state : List ℤ} {n : ℕ} (p : Passed file o (holdsAt number) state n) (l : n < states) where
+      module _ {state : List ℤ} {n : ℕ} (p : StatesPassed file o (holdsAt number) state n) (l : n < states) where
         pub passed-asks : Within low high state × TestFits low high file test
         passed-asks = passes-asks (pass-within file o (h .readable) (h .low-is) (h .high-is) states-all l p)
 
@@ -241,12 +241,12 @@ module _ {file : List ℕ} {o : Outline} {low high : List ℤ} {states : ℕ} {n
         advance-asks = pass-idle file o (h .readable) (h .low-is) (h .high-is) states-all l p
 
         pub passed-more : passesOf low high file test state ≡ true → {after : List ℤ} → after ≡ advanceOf low high state
-            → Passed file o (holdsAt number) after (n + 1)
+            → StatesPassed file o (holdsAt number) after (n + 1)
         passed-more f = pass-more file o (h .readable) (h .low-is) (h .high-is) states-all l p (sym (passes-is state) ∙ f)
 
         pub passed-broke : passesOf low high file test state ≡ false → Broke file o number state
         passed-broke f =
-            let m : n < statesOf file o = rw (← states-all) l in
+            let m : n < stateCount file o = rw (← states-all) l in
             record {
               at = n;
               below = m;
@@ -257,7 +257,7 @@ module _ {file : List ℕ} {o : Outline} {low high : List ℤ} {states : ℕ} {n
 
   -- ---- the conditions
   module _ {number : ℕ} (s : Searched file o number) where
-    pub searched-more : number < total → {state : List ℤ} {n : ℕ} → Passed file o (holdsAt number) state n → states ≤ n
+    pub searched-more : number < total → {state : List ℤ} {n : ℕ} → StatesPassed file o (holdsAt number) state n → states ≤ n
         → Searched file o (number + 1)
     searched-more l p m =
         record {

@@ -13,14 +13,14 @@ use Rattle.testing.specs.Holding.{conditionHolds}
 use Rattle.testing.specs.Testing.{passesOf}
 use Rattle.testing.proofs.Steps.Testing.{passes-vacuous, passes-concluded}
 use Rattle.verdicts.proofs.Steps.Verdict.{Ready, looked-ready, state-asks, states-small, total-small, test-asks, named-asks}
-use Rattle.verdicts.proofs.Steps.Verdict.{Passed, passed-begin, passed-from, passed-asks, advance-asks, passed-more, passed-broke, Broke}
+use Rattle.verdicts.proofs.Steps.Verdict.{StatesPassed, passed-begin, passed-from, passed-asks, advance-asks, passed-more, passed-broke, Broke}
 use Rattle.verdicts.proofs.Steps.Verdict.{searched-more, searched-broke, searched-end}
 use Rattle.verdicts.proofs.first_break.Statement.{statement}
 use Rattle.verdicts.proofs.first_break.Tie as tie
 
 abbrev Inv-states : tie.InvT-states
 Inv-states file outline spans low high states nodes transitions total sure end from start number state₀ test premise n₀ state n =
-    Passed file outline (conditionHolds file outline (conditionAt file outline number)) state n
+    StatesPassed file outline (conditionHolds file outline (conditionAt file outline number)) state n
 
 abbrev μ-states : tie.MeasureT-states
 μ-states file outline spans low high states nodes transitions total sure end from start number state₀ test premise n₀ state n = states - n

@@ -5,8 +5,8 @@ use native.Mathlib.Omega.{arith}
 use borrow.Author.Needs.{needs}
 use Rattle.reading.proofs.Laws.Readable.{small, variables-within}
 use Rattle.verdicts.specs.Acceptance.{LookedUp}
-use Rattle.testing.specs.Testing.{nodesOf, transitionsOf}
-use Rattle.verdicts.specs.Verdict.{statesOf}
+use Rattle.testing.specs.Testing.{nodePlaces, transitionPlaces}
+use Rattle.verdicts.specs.Verdict.{stateCount}
 use Rattle.verdicts.proofs.Steps.Verdict.{count-is, count-asks, spans-serve, nodes-ask, transitions-ask}
 use Rattle.verdicts.proofs.Steps.Everywhere.{found-few, found-small, found-begun}
 use Rattle.verdicts.proofs.judge.Statement.{statement}
@@ -19,7 +19,7 @@ known : (c : tie.After-total)
     → LookedUp (start c .args .file .now) (start c .args .outline) (c .before .before .before .before .before .before .spans-of .result)
     (c .before .before .before .before .before .lows .result) (c .before .before .before .before .highs .result)
     (c .before .before .node-places .result) (c .before .transition-places .result)
-unfolding nodesOf transitionsOf
+unfolding nodePlaces transitionPlaces
 known c =
     record {
       readable = start c .pre;
@@ -30,7 +30,7 @@ known c =
       transitions-are = c .before .transition-places .ensures;
     }
 
-counted : (c : tie.After-total) → c .before .before .before .count .result ≡ statesOf (start c .args .file .now) (start c .args .outline)
+counted : (c : tie.After-total) → c .before .before .before .count .result ≡ stateCount (start c .args .file .now) (start c .args .outline)
 counted c = let k = known c in count-is _ _ (k .low-is) (k .high-is) (c .before .before .before .count .ensures)
 
 spans-of-requires : tie.Need-spans-of-requires

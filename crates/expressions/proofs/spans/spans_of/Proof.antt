@@ -5,12 +5,12 @@ use mathlib.Core.Logic.{⊎-map}
 use Prim.Native.Nat.{_+_, _-_, _/_, _≤_}
 use native.Mathlib.Omega.{arith}
 use lib.ListN.{length}
-use Rattle.expressions.proofs.Steps.Span.{Filled, Passed, mid-within, end-within, filled-begin, filled-more, filled-end}
+use Rattle.expressions.proofs.Steps.Span.{SpansFilled, BehindOperand, mid-within, end-within, filled-begin, filled-more, filled-end}
 use Rattle.expressions.proofs.spans.spans_of.Statement.{statement}
 use Rattle.expressions.proofs.spans.spans_of.Tie as tie
 
 abbrev Inv-loop : tie.InvT-loop
-Inv-loop file spans₀ records at₀ spans at = Filled file spans at
+Inv-loop file spans₀ records at₀ spans at = SpansFilled file spans at
 
 abbrev μ-loop : tie.MeasureT-loop
 μ-loop file spans₀ records at₀ spans at = at
@@ -35,16 +35,16 @@ end-of-requires c κs = search needs
 
 -- the table is filled behind the record, and `end` passes its operands
 filled : (c : tie.In-loop Inv-loop μ-loop)
-    → Filled (c .before .before .before .args .file .now) (c .before .loop .spans) (c .before .loop .at - 1 + 1)
+    → SpansFilled (c .before .before .before .args .file .now) (c .before .loop .spans) (c .before .loop .at - 1 + 1)
 filled c = let e : c .before .loop .at - 1 + 1 ≡ c .before .loop .at = omega arith in rw e (c .before .loop .inv)
 
 first-passed : (c : tie.Joined1 Inv-loop μ-loop)
-    → Passed (c .before .before .before .loop .spans) (c .before .signature-at .result .operands) 0
+    → BehindOperand (c .before .before .before .loop .spans) (c .before .signature-at .result .operands) 0
     (c .before .before .before .loop .at - 1 + 1) (c .if1 .end)
 first-passed c = ⊎-map (λ w. (w .0 .taken, w .3 ∙ w .2 .ensures)) (λ w. (w .0 .left, w .1)) (c .if1 .came)
 
 second-passed : (c : tie.Joined2 Inv-loop μ-loop)
-    → Passed (c .before .before .before .before .loop .spans) (c .before .before .signature-at .result .operands) 1
+    → BehindOperand (c .before .before .before .before .loop .spans) (c .before .before .signature-at .result .operands) 1
     (c .before .if1 .end) (c .if2 .end)
 second-passed c = ⊎-map (λ w. (w .0 .taken, w .3 ∙ w .2 .ensures)) (λ w. (w .0 .left, w .1)) (c .if2 .came)
 

@@ -7,7 +7,7 @@ use mir.Syntax.{w16}
 use Rattle.integers.specs.Radix.{offsetOf}
 use Rattle.integers.proofs.Laws.Parts.{back}
 use Rattle.integers.proofs.Laws.Radix.{offset-small}
-use Rattle.reading.specs.States.{sizeOf}
+use Rattle.reading.specs.States.{sizeAt}
 use borrow.Author.Needs.{needs}
 use Rattle.reading.proofs.states.range_size.Statement.{statement}
 use Rattle.reading.proofs.states.range_size.Tie as tie
@@ -40,7 +40,7 @@ add-result : tie.Need-add-result
 add-result c = search needs
 
 returns : tie.Need-returns
-unfolding sizeOf
+unfolding sizeAt
 returns c =
     let low = c .before .before .value-at in
     let high = c .before .value-at2 in

@@ -6,15 +6,15 @@ use mathlib.Core.Logic.{⊎-elim}
 use Prim.Native.Nat.{_-_, _≤_}
 use native.Mathlib.Omega.{arith}
 use Rattle.evaluating.proofs.Laws.Readable.{states-within}
-use Rattle.verdicts.specs.Verdict.{statesOf}
-use Rattle.verdicts.proofs.Steps.Verdict.{Passed, pass-begin, pass-state, pass-within, pass-idle, pass-more}
+use Rattle.verdicts.specs.Verdict.{stateCount}
+use Rattle.verdicts.proofs.Steps.Verdict.{StatesPassed, pass-begin, pass-state, pass-within, pass-idle, pass-more}
 use Rattle.verdicts.proofs.Steps.Everywhere.{nodes-few, Finding, finding-begin, finding-most, finding-less, finding-same, finding-end}
 use Rattle.verdicts.proofs.acceptance.find.Statement.{statement}
 use Rattle.verdicts.proofs.acceptance.find.Tie as tie
 
 abbrev Inv-loop : tie.InvT-loop
 Inv-loop file outline spans low high states nodes transitions blocks premise places marks doubles held₀ from₀ state₀ n₀ held from state n =
-    Passed file outline (λ s. true) state n × Finding file outline held from n
+    StatesPassed file outline (λ s. true) state n × Finding file outline held from n
 
 abbrev μ-loop : tie.MeasureT-loop
 μ-loop file outline spans low high states nodes transitions blocks premise places marks doubles held₀ from₀ state₀ n₀ held from state n = states - n
@@ -74,7 +74,7 @@ held-blocks-requires c κs =
     )
 
 add-n : tie.Need-add-n Inv-loop μ-loop
-unfolding statesOf
+unfolding stateCount
 add-n c = let p = c .before .before .before .before .before .before .before .before .before .before .before .before .before .before .before .pre in
     let m = states-within _ _ (p .0 .readable) .1 in omega (arith, p .1 .0, c .before .before .before .before .before .before .loop-test .taken)
 

@@ -1,4 +1,3 @@
-pub mod Search
 pub mod Each
 pub mod Double
 pub mod Condition

@@ -5,7 +5,7 @@ use Prim.Native.Nat.{ℕ, _+_, _*_}
 use lib.Dec.{eqb}
 use Rattle.parsing.specs.declared.Outline.{Outline}
 use Rattle.records.specs.Record.{fieldA, fieldB}
-use Rattle.records.specs.Search.{any}
+use Rattle.truths.specs.Search.{any}
 use Rattle.reading.specs.Edge.{double}
 
 -- the edge at record e is one of transition t from node n: "an edge so labelled from it"

@@ -7,7 +7,7 @@ use lib.Dec.{ltb, eqb}
 use Rattle.parsing.specs.declared.Outline.{Outline}
 use Rattle.records.specs.Record.{fieldA}
 use Rattle.reading.specs.Edge.{diagram, doubleFrom}
-use Rattle.conditions.specs.Search.{firstFailing}
+use Rattle.truths.specs.Search.{firstFailing}
 use Rattle.conditions.specs.declared.Condition.{Condition}
 use Rattle.conditions.specs.declared.Condition.the-variants.{Start, Entry, Range, Step}
 use Rattle.conditions.specs.declared.Blocks.{Blocks}

@@ -14,8 +14,9 @@ use Rattle.records.specs.Kind
 use Rattle.records.specs.Walk
 use Rattle.sections.specs.Section
 use Rattle.records.specs.Place
+use Rattle.records.specs.Table
 use Rattle.parsing.specs.Outline
-use Rattle.records.specs.Search
+use Rattle.truths.specs.Search
 use Rattle.reading.specs.declared.Reading.{Reading}
 use Rattle.reading.specs.States
 use Rattle.intervals.specs.Interval
@@ -27,12 +28,11 @@ use Rattle.expressions.specs.Expression
 use Rattle.states.specs.State
 use Rattle.states.specs.Number
 use Rattle.evaluating.specs.Transition
-use Rattle.conditions.specs.Search as First
 use Rattle.conditions.specs.Edges
 use Rattle.testing.specs.Diagram
 use Rattle.conditions.specs.Condition
 use Rattle.conditions.specs.Condition.{conditionsOf}
-use Rattle.runs.specs.Truth
+use Rattle.truths.specs.Truth
 use Rattle.testing.specs.Holding
 use Rattle.verdicts.specs.Verdict
 use Rattle.verdicts.specs.Verdict.{checkOf, singleOf}
@@ -151,9 +151,9 @@ unfolding flatten Bytes.signed16 Bytes.lowByte Bytes.highByte Ends.minZ Ends.max
     Walk.expressionFields Walk.inSequence Walk.recordThen Walk.walkOf Walk.spans Walk.span
     Section.variableFields Section.transitionFields Section.assignmentFields Section.propertyFields Section.edgeFields Section.itemsOf
     Section.variablesOf Section.assignmentsOf Section.transitionOf Section.transitionsOf Section.expressionsOf Section.phasesOr
-    Section.nodesOf Section.repeatedOf Section.edgesOf Place.tabulate
+    Section.nodesOf Section.repeatedOf Section.edgesOf Table.tabulate Table.tableOf
     Outline.edgesParsed Outline.nodesParsed Outline.propertyParsed Outline.transitionsParsed Outline.startParsed Outline.parsedOf
-    Search.any Search.refuseFirst States.sizeAt States.statesOf
+    Search.any Walk.refuseFirst States.sizeAt States.statesOf
     Interval.leafOf Interval.combine Interval.joinOf Interval.ownOf Interval.byOperands Interval.analysisOf Interval.analysedFrom Interval.intervalsOf
     Edge.descending Edge.transitionAt Edge.justOf Edge.conflictOf Edge.chainRuleOf Edge.ruleOf Edge.rulesOf
     Edge.doubleFrom Edge.doubledOf Edge.doublesOf
@@ -163,7 +163,7 @@ unfolding flatten Bytes.signed16 Bytes.lowByte Bytes.highByte Ends.minZ Ends.max
     State.endsOf Number.sizeOf Number.countOf Number.stateOf
     Expression.behind Transition.assignmentAt Transition.assignmentsFrom Transition.inRangeOf Transition.allInRange Transition.assigned
     Transition.guardOf Transition.assignmentList Transition.enabledOf Transition.successorOf
-    First.firstFailingFrom First.firstFailing
+    Search.firstFailingFrom Search.firstFailing
     Diagram.startHolds Diagram.nodeAt Diagram.nodeHolds Diagram.claimedAt Diagram.pHolds Diagram.qAt Diagram.qHolds Edges.carries Edges.isDouble
     Condition.each Condition.movesOf Condition.conditionsFrom Condition.conditionsOf Condition.totalOf Condition.conditionAt
     Condition.refusalNumber Condition.nodeNumber Condition.transitionNumber

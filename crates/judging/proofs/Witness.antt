@@ -21,7 +21,7 @@ use Rattle.verdicts.specs.Verdict.{stateCount, stateAt, checkOf}
 use Rattle.runs.specs.Run.{Run, finite, endless, Position, at, Next, IsRun, DisabledOrTaken, Just, KJust}
 use Rattle.runs.specs.Claim.{Waiting}
 use Rattle.soundness.specs.System.{systemOf}
-use Rattle.runs.proofs.Laws.Truth.{so-true}
+use Rattle.truths.proofs.Laws.Truth.{so-true}
 use Rattle.judging.proofs.Counter.{v, Counter, b, oB, d, oD, h, oH}
 use Rattle.judging.proofs.Examples.{computed}
 

@@ -14,7 +14,7 @@ use Rattle.records.specs.Walk
 use Rattle.sections.specs.Section
 use Rattle.parsing.specs.Outline
 use Rattle.reading.specs.declared.Reading.{Reading}
-use Rattle.records.specs.Search
+use Rattle.truths.specs.Search
 use Rattle.reading.specs.States
 use Rattle.intervals.specs.Interval
 use Rattle.reading.specs.Edge
@@ -148,7 +148,7 @@ unfolding flatten Bytes.signed16 Ends.minZ Ends.maxZ Ends.around Ends.overEnds E
     Section.variablesOf Section.assignmentsOf Section.transitionOf Section.transitionsOf Section.expressionsOf Section.phasesOr
     Section.nodesOf Section.repeatedOf Section.edgesOf
     Outline.edgesParsed Outline.nodesParsed Outline.propertyParsed Outline.transitionsParsed Outline.startParsed Outline.parsedOf
-    Search.any Search.refuseFirst States.sizeAt States.statesOf
+    Search.any Walk.refuseFirst States.sizeAt States.statesOf
     Interval.leafOf Interval.combine Interval.joinOf Interval.ownOf Interval.byOperands Interval.analysisOf Interval.analysedFrom Interval.intervalsOf
     Edge.descending Edge.transitionAt Edge.justOf Edge.conflictOf Edge.chainRuleOf Edge.ruleOf Edge.rulesOf Edge.doubleFrom Edge.doubledOf Edge.doublesOf
     Read.stagesRead Read.parsedRead Read.readOf

@@ -12,7 +12,8 @@ use Rattle.records.specs.Record.{fieldA, fieldB, fieldC, fieldD}
 use Rattle.sections.specs.Section.{transitionOf}
 use Rattle.records.specs.Place.{placeOf, placesOf}
 use Rattle.reading.specs.States.{VariablesFit}
-use Rattle.records.specs.Search.{any, refuseFirst}
+use Rattle.records.specs.Walk.{refuseFirst}
+use Rattle.truths.specs.Search.{any}
 
 -- an edge: a transition, b from, c to, d = 0 single, 1 double
 abbrev pub single : List ℕ → ℕ → Bool

@@ -9,7 +9,7 @@ ghost use Prim.Native.Nat.{_+_, _*_, _≤_, _<_};
 ghost use lib.ListN.{length};
 ghost use Rattle.sections.specs.Section.{transitionOf};
 ghost use Rattle.records.specs.Place.{placesOf};
-ghost use Rattle.records.specs.Search.{any};
+ghost use Rattle.truths.specs.Search.{any};
 ghost use Rattle.reading.specs.Edge.{descending, conflictOf, justOf, chainRuleOf, ruleOf, rulesOf, doubleFrom, doubledOf, doublesOf, OutlineFits, EdgeFits};
 
 // Whether two edges conflict: from one node, either of one transition, single and double, or both double.

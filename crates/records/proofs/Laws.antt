@@ -2,5 +2,6 @@
 pub mod Kind
 pub mod Walk
 pub mod Span
-pub mod Search
+pub mod Refuse
+pub mod Table
 pub mod Place

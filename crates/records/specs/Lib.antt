@@ -2,5 +2,5 @@
 pub mod Record
 pub mod Kind
 pub mod Walk
-pub mod Search
+pub mod Table
 pub mod Place

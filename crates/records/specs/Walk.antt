@@ -55,3 +55,9 @@ spans operand (suc n) k part = spans operand n (k + operand (drop (8 * k) part))
 unfoldable pub span : ℕ → List ℕ → ℕ
 span zero part = 0
 span (suc levels) part = spans (span levels) (signatureOf (formOf (getD part 0 0)) .operands) 1 part
+
+-- ---- tests of numbers in a row
+-- the `left` numbers from `at` on pass the test, or the first that does not is refused, with this number of refusal
+unfoldable pub refuseFirst : ℕ → (ℕ → Bool) → ℕ → ℕ → Walked
+refuseFirst number test zero at = End at
+refuseFirst number test (suc left) at = cond (test at) (refuseFirst number test left (at + 1)) (Refused number at)

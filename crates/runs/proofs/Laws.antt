@@ -1,4 +1,3 @@
-pub mod Truth
 pub mod Lowest
 pub mod Diagram
 pub mod Run

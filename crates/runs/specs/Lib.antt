@@ -1,4 +1,3 @@
 -- Fair transition systems, their runs, and the three claims about these.
-pub mod Truth
 pub mod Run
 pub mod Claim

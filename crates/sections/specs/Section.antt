@@ -8,7 +8,7 @@ use lib.Signed.{leZ}
 use Rattle.records.specs.declared.walk.Walked.{Walked}
 use Rattle.sections.specs.declared.Section.{Section}
 use Rattle.records.specs.Record.{fieldA, fieldB, fieldC, fieldD, valueB, valueC, kindIs, zerosOf, sameBytes}
-use Rattle.records.specs.Search.{any}
+use Rattle.truths.specs.Search.{any}
 use Rattle.records.specs.Kind.{number, truth}
 use Rattle.records.specs.Walk.{andThen, walkOf, truthOf}
 

@@ -1,19 +1,17 @@
 -- "A state gives every variable a value in its range." A state is the list of twelve values: a variable that the file lacks has the range 0..0, so its
 -- value is zero.
 use mathlib.Core.Path.{_≡_}
-use mathlib.Core.Bool.{cond}
 use mathlib.Core.List.{List, [], _∷_}
 use Prim.Native.Nat.{ℕ, _+_, _*_, _<_, _≤_}
-use lib.Dec.{ltb}
 use lib.IntN.{ℤ, pos}
 use lib.ListN.{getD}
 use lib.Signed.{_≤ℤ_}
 use Rattle.records.specs.Record.{value}
-use Rattle.records.specs.Place.{tabulate}
+use Rattle.records.specs.Table.{tableOf}
 
 -- the low or the high ends of the twelve ranges: of a variable's record the bytes from `field` on, 2 for b and 4 for c ("range b..c")
 unfoldable pub endsOf : List ℕ → ℕ → ℕ → List ℤ
-endsOf file vars field = tabulate (λ v. cond (ltb v vars) (value file (8 * v + field)) (pos 0)) 12 0
+endsOf file vars field = tableOf 12 (pos 0) (λ v. value file (8 * v + field)) vars
 
 abbrev pub lowsOf : List ℕ → ℕ → List ℤ
 lowsOf file vars = endsOf file vars 2

@@ -5,7 +5,7 @@ use Prim.Native.Nat.{ℕ}
 use lib.IntN.{ℤ}
 use Rattle.parsing.specs.declared.Outline.{Outline}
 use Rattle.records.specs.Record.{fieldC}
-use Rattle.records.specs.Search.{any}
+use Rattle.truths.specs.Search.{any}
 use Rattle.reading.specs.Edge.{transitionAt}
 use Rattle.states.specs.State.{lowsOf, highsOf}
 use Rattle.evaluating.specs.Transition.{guardOf, assignmentList, allInRange, enabledOf, successorOf}
@@ -13,7 +13,7 @@ use Rattle.conditions.specs.Edges.{carries, isDouble}
 use Rattle.testing.specs.Diagram.{startHolds, nodeHolds, pHolds, qHolds}
 use Rattle.conditions.specs.declared.Condition.{Condition}
 use Rattle.conditions.specs.declared.Condition.the-variants.{Start, Entry, Cover, Range, Step, Enabling}
-use Rattle.runs.specs.Truth.{implies}
+use Rattle.truths.specs.Truth.{implies}
 
 -- ---- transition t of the file at a state
 unfoldable pub guardHolds : List ℕ → Outline → ℕ → List ℤ → Bool

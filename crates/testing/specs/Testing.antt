@@ -10,16 +10,17 @@ use lib.IntN.{ℤ}
 use Rattle.parsing.specs.declared.Outline.{Outline}
 use Rattle.records.specs.Record.{fieldC}
 use Rattle.records.specs.Kind.{truth as truthSort}
-use Rattle.records.specs.Search.{any}
+use Rattle.truths.specs.Search.{any}
 use Rattle.sections.specs.Section.{nodeOf, transitionOf}
-use Rattle.records.specs.Place.{tabulate, placesOf}
+use Rattle.records.specs.Place.{placesOf}
+use Rattle.records.specs.Table.{tabulate}
 use Rattle.reading.specs.Edge.{transitionAt}
 use Rattle.expressions.specs.Expression.{partAt, holdsOf, Fits}
 use Rattle.states.specs.State.{Within}
 use Rattle.evaluating.specs.Transition.{guardOf, enabledOf, successorOf, TransitionFits}
 use Rattle.conditions.specs.Edges.{carries, isDouble}
 use Rattle.testing.specs.Diagram.{nodeAt, claimedAt, qAt}
-use Rattle.runs.specs.Truth.{implies}
+use Rattle.truths.specs.Truth.{implies}
 use Rattle.conditions.specs.declared.Condition.{Condition}
 use Rattle.conditions.specs.declared.Condition.the-variants.{Start, Entry, Cover, Range, Step, Enabling}
 use Rattle.testing.specs.declared.Conclusion.{Conclusion}

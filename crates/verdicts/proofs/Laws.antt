@@ -1,3 +1,2 @@
-pub mod Every
 pub mod Verdict
 pub mod Acceptance

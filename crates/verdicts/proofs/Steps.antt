@@ -2,4 +2,3 @@
 pub mod Pass
 pub mod Verdict
 pub mod Everywhere
-pub mod Acceptance

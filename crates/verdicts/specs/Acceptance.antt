@@ -10,8 +10,8 @@ use lib.IntN.{ℤ}
 use Rattle.parsing.specs.declared.Outline.{Outline}
 use Rattle.records.specs.Record.{fieldC}
 use Rattle.records.specs.Kind.{truth as truthSort}
-use Rattle.records.specs.Place.{tabulate}
-use Rattle.records.specs.Search.{any}
+use Rattle.records.specs.Table.{tabulate, tableOf}
+use Rattle.truths.specs.Search.{any, every, firstFailing}
 use Rattle.reading.specs.declared.Reading.{Reading}
 use Rattle.reading.specs.Edge.{double, diagram}
 use Rattle.reading.specs.Read.{readOf}
@@ -21,22 +21,16 @@ use Rattle.states.specs.State.{lowsOf, highsOf, Within}
 use Rattle.evaluating.specs.Transition.{stepOf, TransitionFits}
 use Rattle.testing.specs.Diagram.{claimedAt, qAt}
 use Rattle.conditions.specs.Condition.{each, movesOf, totalOf, conditionAt}
-use Rattle.runs.specs.Truth.{implies}
+use Rattle.truths.specs.Truth.{implies}
 use Rattle.testing.specs.Holding.{conditionHolds}
 use Rattle.conditions.specs.Layout.{openingOf, layoutOf}
 use Rattle.testing.specs.Testing.{nodePlaces, transitionPlaces}
-use Rattle.conditions.specs.Search.{firstFailing}
 use Rattle.verdicts.specs.Verdict.{stateCount, stateAt, isTrue}
 use Rattle.verdicts.specs.declared.acceptance.Found.{Found}
 use Rattle.conditions.specs.declared.Blocks.{Blocks}
 use Rattle.conditions.specs.declared.Condition.{Condition}
 use Rattle.conditions.specs.declared.Condition.the-variants.{Cover}
 use Rattle.conditions.specs.Edges.{pairAt}
-
--- the n numbers from `at` on pass the test
-unfoldable pub every : (ℕ → Bool) → ℕ → ℕ → Bool
-every test zero at = true
-every test (suc n) at = test at && every test n (at + 1)
 
 -- every condition of a list holds at a state
 unfoldable pub allHold : List ℕ → Outline → List Condition → List ℤ → Bool
@@ -86,7 +80,7 @@ doubleMarksOf file o = tabulate (λ i. any (λ e. double file e && eqb (pairAt f
 
 -- where the q of the first `covers` nodes stand
 unfoldable pub qPlacesOf : List ℕ → Outline → ℕ → List ℕ
-qPlacesOf file o covers = tabulate (λ n. cond (ltb n covers) (qAt file o n) 0) 32 0
+qPlacesOf file o covers = tableOf 32 0 (qAt file o) covers
 
 -- where the premise of start or entry stands
 unfoldable pub openingAt : List ℕ → Outline → ℕ
@@ -94,7 +88,7 @@ openingAt file o = cond (eqb (diagram file o) 1) (o .vars + 1) (claimedAt file o
 
 -- ---- a state: which of the first `count` nodes hold, by their places
 unfoldable pub heldNodesOf : List ℕ → List ℕ → ℕ → List ℤ → List Bool
-heldNodesOf file nodes count state = tabulate (λ n. cond (ltb n count) (holdsOf file (getD nodes n 0 + 1) state) false) 32 0
+heldNodesOf file nodes count state = tableOf 32 false (λ n. holdsOf file (getD nodes n 0 + 1) state) count
 
 -- start or entry, and the covers, where `held` has the nodes that hold
 unfoldable pub openingHolds : List ℕ → ℕ → List Bool → ℕ → List ℤ → Bool

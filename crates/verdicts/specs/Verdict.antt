@@ -10,7 +10,7 @@ use Rattle.reading.specs.declared.Reading.{Reading}
 use Rattle.reading.specs.Read.{readOf}
 use Rattle.states.specs.State.{lowsOf, highsOf}
 use Rattle.states.specs.Number.{countOf, stateOf}
-use Rattle.conditions.specs.Search.{firstFailing}
+use Rattle.truths.specs.Search.{firstFailing}
 use Rattle.conditions.specs.Condition.{totalOf, conditionAt, refusalNumber, nodeNumber, transitionNumber}
 use Rattle.testing.specs.Holding.{conditionHolds}
 use Rattle.conditions.specs.declared.Condition.{Condition}

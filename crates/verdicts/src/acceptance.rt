@@ -22,7 +22,8 @@ ghost use Rattle.conditions.specs.Layout.{layoutOf};
 ghost use Rattle.verdicts.specs.Verdict.{stateCount};
 ghost use Rattle.conditions.specs.Edges.{pairAt};
 ghost use Rattle.verdicts.specs.Acceptance.{edgeMarksOf, doubleMarksOf, qPlacesOf, openingAt, heldNodesOf, openingHolds, coversHold};
-ghost use Rattle.verdicts.specs.Acceptance.{reachedOf, pairHolds, nodesHold, transitionsHold, every, blockHolds, heldBlocksOf, foundOf, conditionsIn};
+ghost use Rattle.verdicts.specs.Acceptance.{reachedOf, pairHolds, nodesHold, transitionsHold, blockHolds, heldBlocksOf, foundOf, conditionsIn};
+ghost use Rattle.truths.specs.Search.{every};
 ghost use Rattle.verdicts.specs.Acceptance.{NodesFit, PlacesFit, PassFits, LookedUp, Tables};
 
 // What the pass finds: how many blocks of conditions are true, up to the first that is not, and how many states that one holds at, up to the first that

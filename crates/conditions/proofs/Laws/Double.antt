@@ -14,14 +14,14 @@ use borrow.Author.Tests.{eq-eqb, ne-eqb, eqb-true, eqb-false, ltb-true, ltb-fals
 use lib.Dec.{eqb, ltb}
 use Rattle.parsing.specs.declared.Outline.{Outline}
 use Rattle.records.specs.Record.{fieldA, fieldB, fieldD}
-use Rattle.records.proofs.Laws.Search.{any-some}
+use Rattle.truths.proofs.Laws.Any.{any-some, any-at}
 use Rattle.reading.specs.declared.Reading.{Reading}
 use Rattle.reading.specs.Edge.{diagram, double, doubleFrom}
 use Rattle.reading.specs.Read.{readOf}
 use Rattle.reading.proofs.Laws.Readable.{property-kind, edge, edge-invariance, edge-waiting, edge-chain, double-transition}
 use Rattle.conditions.specs.Edges.{carries, isDouble}
 use Rattle.conditions.specs.Layout.{doubleEdge, doubleOf}
-use Rattle.conditions.proofs.Laws.Search.{first-passes, first-fails, any-at}
+use Rattle.truths.proofs.Laws.First.{first-passes, first-fails}
 
 module _ (file : List ℕ) (o : Outline) where
   -- edge e is a double edge of transition t from node n

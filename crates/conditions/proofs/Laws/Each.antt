@@ -3,7 +3,6 @@
 --     each-length, each-at    blocks of one size: an element is found by a quotient and a remainder
 --     each-in, in-each        an element stands in the list of some number, and what stands there is an element
 --     at-in, member-at        what is found at an index is an element, and an element stands at one
---     tabulate-at             an entry of a table
 -- Assumes nothing.
 use mathlib.Core.Path.{_≡_, refl, sym, ap, ap₂, _∙_}
 use mathlib.Core.Logic.{_⊎_, inl, inr}
@@ -15,12 +14,7 @@ use native.Mathlib.Decide.{decLt}
 use native.Mathlib.Omega.{arith}
 use lib.ListN.{length, getD, length-append, List·getD-append}
 use lib.Seq.{getD-append-add}
-use Rattle.records.specs.Place.{tabulate}
-use Rattle.records.proofs.Laws.Place.{getD-tabulate}
 use Rattle.conditions.specs.Condition.{each}
-
-pub tabulate-at : {A : Type 0} (f : ℕ → A) (d : A) (n i : ℕ) → i < n → getD (tabulate f n 0) i d ≡ f i
-tabulate-at f d n i l = getD-tabulate f d n 0 i l ∙ ap f (omega arith)
 
 pub each-same : {A : Type 0} (f g : ℕ → List A) (n at : ℕ) → ((i : ℕ) → at ≤ i → i < at + n → f i ≡ g i) → each f n at ≡ each g n at
 unfolding each

@@ -16,7 +16,7 @@ use Rattle.conditions.specs.Condition.{totalOf, conditionAt}
 use Rattle.conditions.specs.Layout.{doubleEdge, doubleOf, layoutOf, pairOf}
 use Rattle.conditions.specs.declared.Blocks.{Blocks}
 use Rattle.conditions.specs.declared.Condition.the-variants.{Cover, Enabling}
-use Rattle.conditions.proofs.Laws.Search.{first-is}
+use Rattle.truths.proofs.Laws.First.{first-is}
 use Rattle.conditions.proofs.Laws.Double.{double-most}
 use Rattle.conditions.proofs.Laws.Condition.{nodeBy, positionBy, positionOf, position-enabling, position-before, position-after}
 use Rattle.conditions.proofs.Laws.Condition.{Bounds, Move, layout-bounds, total-is, condition-cover, condition-move}

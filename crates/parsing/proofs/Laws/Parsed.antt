@@ -20,7 +20,7 @@ use Rattle.parsing.specs.declared.Outline.{Outline}
 use Rattle.records.specs.Record.{fieldA, fieldB, fieldC, fieldD, valueB, valueC, zerosOf, sameBytes}
 use Rattle.records.specs.Walk.{truthOf}
 use Rattle.sections.specs.Section.{noFields, variableFields, transitionFields, propertyFields, edgeFields, variablesOf, transitionOf, transitionsOf, phasesOr, nodesOf, repeatedOf, edgesOf}
-use Rattle.records.proofs.Laws.Search.{any-false}
+use Rattle.truths.proofs.Laws.Any.{any-false}
 use Rattle.sections.proofs.Laws.Section.{items-most, items-single, single-nth}
 use Rattle.parsing.proofs.Laws.Outline.{Parses}
 

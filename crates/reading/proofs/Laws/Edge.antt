@@ -13,16 +13,13 @@ use lib.Dec.{ltb, leb, eqb}
 use Rattle.parsing.specs.declared.Outline.{Outline}
 use Rattle.records.specs.Record.{fieldA, fieldB, fieldC, fieldD}
 use Rattle.parsing.proofs.Laws.Parsed as parsed
-use Rattle.records.specs.Search.{any}
-use Rattle.records.proofs.Laws.Search.{any-false, any-some, refuse-all}
+use Rattle.truths.specs.Search.{any}
+use Rattle.records.proofs.Laws.Refuse.{refuse-all}
+use Rattle.truths.proofs.Laws.Any.{any-false, any-some}
+use Rattle.truths.proofs.Laws.Truth.{or-other}
 use Rattle.reading.specs.Edge.{single, double, diagram, descending, justOf, conflictOf, chainRuleOf, ruleOf, rulesOf, doubleFrom, doubledOf, doublesOf}
 use Rattle.reading.specs.Readable.{Edge, DoubleTransition}
 use Rattle.reading.proofs.Laws.Stage.{Stages}
-
--- ---- tests
-other : (a b : Bool) → (a || b) ≡ true → a ≡ false → b ≡ true
-other true b e f = absurd (false≢true (sym f))
-other false b e f = e
 
 module _ (file : List ℕ) (o : Outline) (r : Stages file o) where
   -- ---- what an edge names
@@ -94,7 +91,7 @@ module _ (file : List ℕ) (o : Outline) (r : Stages file o) where
         let at = o .edge + e in
         let n : fieldD file at ≡ 0 → ⊥ = λ z. omega arith in
         let p = and-eq-true-iff (ltb (fieldC file at) (fieldB file at)) (justOf file o (fieldA file at)) .0
-        (other (single file at) (ltb (fieldC file at) (fieldB file at) && justOf file o (fieldA file at)) (chain-parts e l .1) (ne-eqb _ _ n)) in
+        (or-other (single file at) (ltb (fieldC file at) (fieldB file at) && justOf file o (fieldA file at)) (chain-parts e l .1) (ne-eqb _ _ n)) in
         (ltb-true _ _ (p .0), p .1)
 
     -- two edges from one node, the earlier and the later: of one transition both are single or both double, of two not both are double

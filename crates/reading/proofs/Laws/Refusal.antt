@@ -21,7 +21,7 @@ use Rattle.parsing.proofs.Laws.Refusal.{Refusing, walked, refused, by-test, ref
 use Rattle.parsing.proofs.Laws.Outline.{Parses, parses}
 use Rattle.reading.specs.declared.Reading.{Reading}
 use Rattle.intervals.specs.declared.Analysis.{Analysis}
-use Rattle.records.specs.Search.{refuseFirst}
+use Rattle.records.specs.Walk.{refuseFirst}
 use Rattle.reading.specs.States.{sizeAt, statesOf}
 use Rattle.intervals.specs.Interval.{unit, leafOf, joinOf, ownOf, andInterval, byOperands, analysisOf, andExpression, analysedFrom, intervalsOf}
 use Rattle.reading.specs.Edge.{diagram, ruleOf, rulesOf, doubledOf, doublesOf}

@@ -16,7 +16,8 @@ use Rattle.sections.specs.Section.{transitionOf}
 use Rattle.records.specs.Place.{placeOf, placesOf}
 use Rattle.sections.proofs.Laws.Section.{transitions-bound}
 use Rattle.records.proofs.Laws.Place.{places-nth}
-use Rattle.records.specs.Search.{any, refuseFirst}
+use Rattle.records.specs.Walk.{refuseFirst}
+use Rattle.truths.specs.Search.{any}
 use Rattle.reading.specs.Edge.{transitionAt, single, diagram, descending, justOf, conflictOf, chainRuleOf, ruleOf, doubledOf, doublesOf, OutlineFits, EdgeFits}
 
 -- ---- where a transition stands

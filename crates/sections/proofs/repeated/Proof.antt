@@ -5,8 +5,8 @@ use mathlib.Core.Path.{refl, sym, _∙_, _≡_}
 use Prim.Native.Nat.{_+_, _*_, _≤_}
 use Rattle.sections.specs.Section.{repeatedOf}
 use Rattle.records.specs.Record.{sameBytes}
-use Rattle.records.specs.Search.{any}
-use Rattle.records.proofs.Laws.Search.{any-none, any-hit, any-next}
+use Rattle.truths.specs.Search.{any}
+use Rattle.truths.proofs.Laws.Any.{any-none, any-hit, any-next}
 use Rattle.sections.proofs.repeated.Statement.{statement}
 use Rattle.sections.proofs.repeated.Tie as tie
 

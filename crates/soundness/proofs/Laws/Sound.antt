@@ -13,7 +13,7 @@ use lib.Dec.{T, T-not, eqb}
 use lib.IntN.{ℤ}
 use Rattle.parsing.specs.declared.Outline.{Outline}
 use Rattle.records.specs.Record.{fieldA, fieldB, fieldC}
-use Rattle.records.proofs.Laws.Search.{Some, any-some}
+use Rattle.truths.proofs.Laws.Any.{Some, any-some, any-at}
 use Rattle.reading.specs.declared.Reading.{Reading}
 use Rattle.reading.specs.Edge.{diagram, double, justOf}
 use Rattle.reading.specs.Read.{readOf}
@@ -30,8 +30,7 @@ use Rattle.soundness.specs.System.{systemOf, Claimed}
 use Rattle.conditions.specs.Layout.{doubleOf}
 use Rattle.conditions.specs.declared.Condition.{Condition}
 use Rattle.conditions.specs.declared.Condition.the-variants.{Start, Entry, Cover, Range, Step, Enabling}
-use Rattle.conditions.proofs.Laws.Search.{any-at}
-use Rattle.runs.proofs.Laws.Truth.{is-true, so-true, implied, both, left, right, either}
+use Rattle.truths.proofs.Laws.Truth.{is-true, so-true, implied, both, left, right, either}
 use Rattle.conditions.proofs.Laws.Double.{double-is}
 use Rattle.conditions.proofs.Laws.Listed.{invariance-lists, waiting-lists, chain-lists, opening-in, cover-in, range-in, step-in, enabling-in}
 use Rattle.runs.proofs.Laws.Diagram.{SomeNode, Diagram, Target, RangeAt, StepAt, ChainStepAt, Entered, Covered, EnabledAt}

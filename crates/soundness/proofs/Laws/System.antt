@@ -20,7 +20,7 @@ use Rattle.evaluating.proofs.Laws.Readable as readable
 use Rattle.testing.specs.Holding.{guardHolds, valuesFit, nextState}
 use Rattle.runs.specs.Run.{finite, Position, at, enabled, Next, IsRun}
 use Rattle.soundness.specs.System.{systemOf}
-use Rattle.runs.proofs.Laws.Truth.{is-true}
+use Rattle.truths.proofs.Laws.Truth.{is-true}
 
 module _ (file : List ℕ) (o : Outline) (r : readOf file ≡ Reading.Readable o) (s : List ℤ) (w : State file (o .vars) s) where
   pub state-run : IsRun (systemOf file o) (finite s [])

@@ -20,7 +20,7 @@ use lib.ListN.{length, getD, set, List·getD-eq-default}
 use lib.Signed.{_≤ℤ_, ≤ℤ-refl}
 use Rattle.integers.proofs.Laws.Parts.{by-test, ≤ℤ-trans, ≤ℤ-antisym}
 use Rattle.records.specs.Record.{value, valueB, valueC}
-use Rattle.records.proofs.Laws.Place.{length-tabulate, getD-tabulate}
+use Rattle.records.proofs.Laws.Table.{length-table, table-at, table-beyond}
 use Rattle.states.specs.State.{endsOf, lowsOf, highsOf, Ranges, Within, State, Idle}
 use Rattle.states.specs.State.Ranges.{none as no-ranges, more as more-ranges}
 use Rattle.states.specs.State.Within.{none as no-values, more as more-values}
@@ -28,25 +28,20 @@ use Rattle.states.specs.State.Within.{none as no-values, more as more-va
 -- ---- the ends of the ranges
 
 module _ (file : List ℕ) (vars field : ℕ) where
-  -- entry v of the table
-  abbrev pub entry : ℕ → ℤ
-  entry v = cond (ltb v vars) (value file (8 * v + field)) (pos 0)
+  abbrev end : ℕ → ℤ
+  end v = value file (8 * v + field)
 
   pub ends-length : length (endsOf file vars field) ≡ 12
   unfolding endsOf
-  ends-length = length-tabulate entry 12 0
-
-  getD-ends : (v : ℕ) → v < 12 → getD (endsOf file vars field) v (pos 0) ≡ entry v
-  unfolding endsOf
-  getD-ends v l = getD-tabulate entry (pos 0) 12 0 v l ∙ ap entry (omega arith)
+  ends-length = length-table 12 (pos 0) end vars
 
   pub ends-at : (v : ℕ) → v < 12 → v < vars → getD (endsOf file vars field) v (pos 0) ≡ value file (8 * v + field)
-  ends-at v l m = getD-ends v l ∙ rw (lt-ltb _ _ m)
+  unfolding endsOf
+  ends-at v l m = table-at 12 (pos 0) end vars v l m
 
   pub ends-beyond : (v : ℕ) → vars ≤ v → getD (endsOf file vars field) v (pos 0) ≡ pos 0
-  ends-beyond v m =
-      by-test (ltb v 12) (λ _. getD (endsOf file vars field) v (pos 0) ≡ pos 0) (λ is. getD-ends v (ltb-true v 12 is) ∙ rw (le-ltb _ _ m))
-      (λ is. List·getD-eq-default (endsOf file vars field) (pos 0) (rw ends-length (ltb-false v 12 is)))
+  unfolding endsOf
+  ends-beyond v m = table-beyond 12 (pos 0) end vars v m
 
 -- ---- ranges
 

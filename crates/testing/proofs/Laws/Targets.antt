@@ -23,9 +23,9 @@ use Rattle.records.specs.Record.{fieldB, fieldC}
 use Rattle.records.specs.Kind.{truth as truthSort}
 use Rattle.sections.specs.Section.{nodeOf, transitionOf, expressionsOf}
 use Rattle.records.specs.Place.{placeOf}
-use Rattle.records.specs.Search.{any}
+use Rattle.truths.specs.Search.{any}
 use Rattle.records.proofs.Laws.Place.{places-nth}
-use Rattle.records.proofs.Laws.Search.{any-some}
+use Rattle.truths.proofs.Laws.Any.{any-some, any-at, any-below, any-same}
 use Rattle.sections.proofs.Laws.Section.{kind-here}
 use Rattle.reading.specs.declared.Reading.{Reading}
 use Rattle.reading.specs.Edge.{diagram, transitionAt}
@@ -37,24 +37,8 @@ use Rattle.conditions.specs.Edges.{carries}
 use Rattle.testing.specs.Diagram.{nodeAt, nodeHolds, claimedAt, qAt}
 use Rattle.testing.specs.Holding.{someNode, someTarget}
 use Rattle.testing.specs.Testing.{marksOf, chosenFrom, nodePlaces, transitionPlaces, someHolds}
-use Rattle.conditions.proofs.Laws.Each.{tabulate-at}
-use Rattle.conditions.proofs.Laws.Search.{or-second, any-at, any-same}
-
--- ---- truths
-same-bool : (a b : Bool) → (a ≡ true → b ≡ true) → (b ≡ true → a ≡ true) → a ≡ b
-same-bool true b f g = sym (f refl)
-same-bool false true f g = g refl
-same-bool false false f g = refl
-
-either : (a b : Bool) → (a || b) ≡ true → (a ≡ true) ⊎ (b ≡ true)
-either true b e = inl refl
-either false b e = inr e
-
-or-first : (a b : Bool) → a ≡ true → (a || b) ≡ true
-or-first a b e = rw e
-
-any-below : (test : ℕ → Bool) (n i : ℕ) → i < n → test i ≡ true → any test n 0 ≡ true
-any-below test n i l t = any-at test n 0 i l (let z : 0 + i ≡ i = omega arith in rw z t)
+use Rattle.records.proofs.Laws.Table.{tabulate-at}
+use Rattle.truths.proofs.Laws.Truth.{same-truth, or-first, or-second, or-cases}
 
 -- ---- the places chosen
 module _ (marks : List Bool) (nodes : List ℕ) where
@@ -142,7 +126,7 @@ module _ (keep : Bool) (n edges edge : ℕ) (carried : ℕ → Bool) (to : ℕ �
     forth : (j : ℕ) → (isMarked j && holds j) ≡ true → ((keep && holds n) || targetHolds) ≡ true
     forth j e =
         let b = and-eq-true-iff (isMarked j) (holds j) .0 e in
-        ⊎-elim (kept j (b .1)) (moved j (b .1)) (either (keep && eqb j n) (isTarget j) (b .0))
+        ⊎-elim (kept j (b .1)) (moved j (b .1)) (or-cases (keep && eqb j n) (isTarget j) (b .0))
 
     -- and each of these is marked
     module _ (nodes : ℕ) (there : n < nodes) (named : (e : ℕ) → e < edges → to (edge + e) < nodes) where
@@ -169,9 +153,9 @@ module _ (keep : Bool) (n edges edge : ℕ) (carried : ℕ → Bool) (to : ℕ �
 
       pub marked-some : any (λ j. isMarked j && holds j) nodes 0 ≡ ((keep && holds n) || targetHolds)
       marked-some =
-          same-bool (any (λ j. isMarked j && holds j) nodes 0) ((keep && holds n) || targetHolds)
+          same-truth (any (λ j. isMarked j && holds j) nodes 0) ((keep && holds n) || targetHolds)
           (λ e. let s = any-some (λ j. isMarked j && holds j) nodes 0 e in forth (0 + s .which) (s .passes))
-          (λ e. ⊎-elim stays goes (either (keep && holds n) targetHolds e))
+          (λ e. ⊎-elim stays goes (or-cases (keep && holds n) targetHolds e))
 
 -- ---- the places of a readable file
 module _ (file : List ℕ) (o : Outline) (r : readOf file ≡ Reading.Readable o) where

@@ -4,7 +4,7 @@
 --     node-fits, claimed-fits, q-fits, transition-fits     and so can each node, claim, q and transition
 -- Assumes nothing.
 use mathlib.Core.Path.{_≡_, refl, ap, _∙_}
-use mathlib.Core.Bool.{Bool, true, false, not, cond, _&&_, _||_}
+use mathlib.Core.Bool.{Bool, true, false, not, cond, _&&_, _||_, or-false}
 use mathlib.Core.List.{List, [], _∷_, _++_}
 use Prim.Native.Nat.{ℕ, zero, suc, _+_, _-_, _≤_, _<_}
 use native.Mathlib.Omega.{arith}
@@ -25,7 +25,7 @@ use Rattle.evaluating.proofs.Laws.Readable as evaluable
 use Rattle.conditions.specs.Edges.{isDouble}
 use Rattle.testing.specs.Diagram.{nodeAt, nodeHolds, startHolds, claimedAt, pHolds, qAt, qHolds}
 use Rattle.conditions.specs.Condition.{Listed}
-use Rattle.runs.specs.Truth.{implies}
+use Rattle.truths.specs.Truth.{implies}
 use Rattle.testing.specs.Holding.{guardHolds, valuesFit, isEnabled, nextState, someNode, someTarget, conditionHolds}
 use Rattle.testing.specs.Testing.{marksOf, chosenFrom, targetsOf, chosenOf, nodePlaces, preparedOf, testOf, someHolds, concludesOf, passesOf}
 use Rattle.testing.specs.Testing.{TruthFits, TestFits}
@@ -48,10 +48,6 @@ unfolding implies
 implies-range true true v = refl
 implies-range true false v = refl
 implies-range false g v = refl
-
-or-none : (b : Bool) → (b || false) ≡ b
-or-none true = refl
-or-none false = refl
 
 -- ---- a test of a list of places
 module _ (lows highs : List ℤ) (file : List ℕ) (premise transition : ℕ) (list : List ℕ) where
@@ -127,7 +123,7 @@ module _ (file : List ℕ) (o : Outline) (r : readOf file ≡ Reading.Readable o
     says Entry p = says-some (claimedAt file o 0)
     says (Cover n) p =
         some-passes lows highs file (nodeAt file o n + 1) 0 (qAt file o n ∷ []) state
-        ∙ ap (implies (holdsOf file (nodeAt file o n + 1) state)) (or-none (holdsOf file (qAt file o n) state))
+        ∙ ap (implies (holdsOf file (nodeAt file o n + 1) state)) (or-false (holdsOf file (qAt file o n) state))
     says (Range n t) p = says-range n t
     says (Step n t) p = says-step n t (p .0)
     says (Enabling n t) p = refl

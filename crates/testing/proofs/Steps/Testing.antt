@@ -13,9 +13,9 @@ use lib.Dec.{eqb}
 use lib.IntN.{ℤ}
 use Rattle.parsing.specs.declared.Outline.{Outline}
 use Rattle.records.specs.Record.{fieldC}
-use Rattle.records.specs.Place.{tabulate}
-use Rattle.records.specs.Search.{any}
-use Rattle.records.proofs.Laws.Place.{length-tabulate, getD-tabulate}
+use Rattle.records.specs.Table.{tabulate}
+use Rattle.truths.specs.Search.{any}
+use Rattle.records.proofs.Laws.Table.{length-tabulate, getD-tabulate}
 use Rattle.reading.specs.declared.Reading.{Reading}
 use Rattle.reading.specs.Edge.{transitionAt}
 use Rattle.reading.specs.Read.{readOf}
@@ -33,7 +33,9 @@ use Rattle.testing.specs.declared.Test.{Test}
 use Rattle.conditions.specs.Edges.{isDouble}
 use Rattle.testing.specs.Diagram.{nodeAt, claimedAt, qAt}
 use Rattle.conditions.specs.Condition.{Listed}
-use Rattle.runs.specs.Truth.{implies}
+use Rattle.truths.specs.Truth.{implies}
+use Rattle.truths.proofs.Laws.Truth.{implies-or}
+use Rattle.truths.proofs.Laws.Any.{any-last}
 use Rattle.testing.specs.Testing.{marksOf, chosenFrom, targetsOf, chosenOf, nodePlaces, transitionPlaces, preparedOf, testOf}
 use Rattle.testing.specs.Testing.{someHolds, targetsListed, concludesOf, passesOf}
 use Rattle.conditions.specs.Layout.{doubleOf}
@@ -68,21 +70,6 @@ eqb-swap a b = by (eqb b a) refl
     by : (t : Bool) → eqb b a ≡ t → eqb a b ≡ t
     by true is = eq-eqb a b (sym (eqb-true b a is))
     by false is = ne-eqb a b (λ e. eqb-false b a is (sym e))
-
-any-last : (test : ℕ → Bool) (n at : ℕ) → any test (suc n) at ≡ (any test n at || test (at + n))
-unfolding any
-any-last test zero at = let z : at + 0 ≡ at = omega arith in rw z (none (test at))
-  where
-    none : (a : Bool) → (a || false) ≡ a
-    none true = refl
-    none false = refl
-any-last test (suc n) at =
-    let z : at + suc n ≡ at + 1 + n = omega arith in
-    rw z (regroup (test at) (any test n (at + 1)) (test (at + 1 + n)) _ (any-last test n (at + 1)))
-  where
-    regroup : (a b c d : Bool) → d ≡ (b || c) → (a || d) ≡ ((a || b) || c)
-    regroup true b c d e = refl
-    regroup false b c d e = e
 
 set-mark : (l : List Bool) (i j : ℕ) (v : Bool) → i < length l → getD (set l i v) j false ≡ cond (eqb j i) v (getD l j false)
 set-mark l i j v h = by (eqb j i) refl
@@ -256,11 +243,6 @@ module _ (file places : List ℕ) (count i : ℕ) (state : List ℤ) (enough : c
     some-later t = ap (λ (l : List ℕ). someHolds file l state) next-place ∙ rw t
 
 -- ---- a test
-implies-or : (p q : Bool) → (not p || q) ≡ implies p q
-unfolding implies
-implies-or true q = refl
-implies-or false q = refl
-
 -- whether a conclusion speaks of a transition
 abbrev pub steps : Conclusion → Bool
 steps Conclusion.SomeTarget = false

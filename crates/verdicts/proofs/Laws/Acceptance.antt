@@ -5,7 +5,7 @@
 --     blocks-begun         the conditions of true blocks are true, and those of the next hold up to the first state that breaks it
 -- Assumes nothing.
 use mathlib.Core.Path.{_≡_, refl, sym, ap, ap₂, _∙_}
-use mathlib.Core.Bool.{Bool, true, false, not, cond, _&&_, _||_, and-eq-true-iff}
+use mathlib.Core.Bool.{Bool, true, false, not, cond, _&&_, _||_, and-eq-true-iff, and-true, and-assoc, and-comm}
 use mathlib.Core.List.{List, [], _∷_, _++_, List·Memᴰ, List·Memᴰ·not-nil}
 use mathlib.Core.List.List·Memᴰ.{List·Memᴰ·head, List·Memᴰ·tail}
 use Prim.Native.Nat.{ℕ, zero, suc, _+_, _*_, _-_, _/_, _≤_, _<_}
@@ -20,7 +20,7 @@ use lib.IntN.{ℤ}
 use Rattle.parsing.specs.declared.Outline.{Outline}
 use Rattle.records.specs.Record.{fieldA, fieldB, fieldC}
 use Rattle.records.specs.Kind.{truth as truthSort}
-use Rattle.records.specs.Search.{any}
+use Rattle.truths.specs.Search.{any, firstFailing, every}
 use Rattle.reading.specs.declared.Reading.{Reading}
 use Rattle.reading.specs.Edge.{double, diagram, transitionAt}
 use Rattle.reading.specs.Read.{readOf}
@@ -33,40 +33,26 @@ use Rattle.evaluating.proofs.Laws.Readable as evaluable
 use Rattle.conditions.specs.Edges.{carries, isDouble}
 use Rattle.testing.specs.Diagram.{nodeHolds, startHolds, claimedAt, pHolds, qAt, qHolds}
 use Rattle.conditions.specs.Condition.{each, movesOf, totalOf, conditionAt}
-use Rattle.runs.specs.Truth.{implies}
+use Rattle.truths.specs.Truth.{implies}
 use Rattle.testing.specs.Holding.{guardHolds, valuesFit, isEnabled, nextState, someNode, someTarget, conditionHolds}
 use Rattle.conditions.specs.Layout.{openingOf, layoutOf}
 use Rattle.testing.specs.Testing.{nodePlaces, transitionPlaces}
-use Rattle.conditions.specs.Search.{firstFailing}
 use Rattle.verdicts.specs.Verdict.{stateCount, stateAt, isTrue}
 use Rattle.conditions.specs.Edges.{pairAt}
-use Rattle.verdicts.specs.Acceptance.{every, allHold, blockOf, blockHolds, trueBlocksOf, heldStatesOf, conditionsIn, edgeMarksOf, doubleMarksOf, qPlacesOf, openingAt, heldNodesOf}
+use Rattle.verdicts.specs.Acceptance.{allHold, blockOf, blockHolds, trueBlocksOf, heldStatesOf, conditionsIn, edgeMarksOf, doubleMarksOf, qPlacesOf, openingAt, heldNodesOf}
 use Rattle.verdicts.specs.Acceptance.{openingHolds, coversHold, reachedOf, pairHolds, nodesHold, transitionsHold}
 use Rattle.verdicts.specs.Acceptance.{NodesFit, PlacesFit, PassFits, Searched, Begun}
 use Rattle.conditions.specs.declared.Condition.{Condition}
 use Rattle.conditions.specs.declared.Condition.the-variants.{Start, Entry, Cover, Enabling}
-use Rattle.conditions.proofs.Laws.Each.{tabulate-at, in-each}
-use Rattle.conditions.proofs.Laws.Search.{first-most, first-passes, first-fails, any-same}
-use Rattle.verdicts.proofs.Laws.Every.{every-at, every-first, every-same, every-swap}
+use Rattle.conditions.proofs.Laws.Each.{in-each}
+use Rattle.records.proofs.Laws.Table.{tabulate-at, table-at}
+use Rattle.truths.proofs.Laws.First.{first-most, first-passes, first-fails}
+use Rattle.truths.proofs.Laws.Any.{any-same}
+use Rattle.truths.proofs.Laws.Every.{every-at, every-first, every-same, every-swap}
 use Rattle.conditions.proofs.Laws.Condition.{layout-bounds, cover-parts, total-is, condition-opening, condition-cover, condition-move, condition-node}
 use Rattle.testing.proofs.Laws.Targets.{marked-some, node-at, transition-at, node-small, first-claimed}
 use Rattle.testing.proofs.Laws.Testing.{node-fits, claimed-fits, q-fits, transition-fits}
 use Rattle.verdicts.proofs.Laws.Verdict.{true-at}
-
--- ---- truths
-and-all : (a b c : Bool) → ((a && b) && c) ≡ (a && (b && c))
-and-all true b c = refl
-and-all false b c = refl
-
-and-none : (a : Bool) → (a && true) ≡ a
-and-none true = refl
-and-none false = refl
-
-and-swap : (a b : Bool) → (a && b) ≡ (b && a)
-and-swap true true = refl
-and-swap true false = refl
-and-swap false true = refl
-and-swap false false = refl
 
 -- two numbers with a digit below 32 behind each are equal where both parts are
 digits : (b a n t : ℕ) → a < 32 → t < 32 → eqb (32 * b + a) (32 * n + t) ≡ (eqb b n && eqb a t)
@@ -86,7 +72,7 @@ module _ (file : List ℕ) (o : Outline) (state : List ℤ) where
   unfolding allHold
   all-append [] m = refl
   all-append (c ∷ l) m =
-      ap (λ (b : Bool). conditionHolds file o c state && b) (all-append l m) ∙ sym (and-all (conditionHolds file o c state) (hold l) (hold m))
+      ap (λ (b : Bool). conditionHolds file o c state && b) (all-append l m) ∙ sym (and-assoc (conditionHolds file o c state) (hold l) (hold m))
 
   all-each : (f : ℕ → List Condition) (n at : ℕ) → hold (each f n at) ≡ every (λ i. hold (f i)) n at
   unfolding each every allHold
@@ -102,7 +88,7 @@ module _ (file : List ℕ) (o : Outline) (state : List ℤ) where
   -- one cover
   all-one : (c : Condition) → hold (c ∷ []) ≡ conditionHolds file o c state
   unfolding allHold
-  all-one c = and-none (conditionHolds file o c state)
+  all-one c = and-true (conditionHolds file o c state)
 
   -- the conditions of a node and a transition, by what the transition does
   module _ (n t : ℕ) where
@@ -116,8 +102,8 @@ module _ (file : List ℕ) (o : Outline) (state : List ℤ) where
     unfolding allHold implies conditionHolds
     moves-by false g v true K R next is en = rw (← is)
     moves-by false g v false K R next is en = refl
-    moves-by true true true true K R next is en = rw (← is, ← en) (and-none (R next))
-    moves-by true true true false K R next is en = and-none (K next || R next)
+    moves-by true true true true K R next is en = rw (← is, ← en) (and-true (R next))
+    moves-by true true true false K R next is en = and-true (K next || R next)
     moves-by true true false d K R next is en = refl
     moves-by true false v true K R next is en = rw (← is, ← en)
     moves-by true false v false K R next is en = refl
@@ -147,7 +133,7 @@ module _ (file : List ℕ) (o : Outline) (r : readOf file ≡ Reading.Readable o
   unfolding qPlacesOf
   place-at n l =
       let m = covers-few in
-      tabulate-at (λ n. cond (ltb n covers) (qAt file o n) 0) 0 32 n (omega arith) ∙ rw (lt-ltb n covers l)
+      table-at 32 0 (qAt file o) covers n (omega arith) l
 
   -- a pair has the edges of its node and its transition
   module _ (n t : ℕ) (m : t < 32) where
@@ -162,7 +148,7 @@ module _ (file : List ℕ) (o : Outline) (r : readOf file ≡ Reading.Readable o
     double-at l =
         tabulate-at (λ i. any (λ e. double file e && eqb (pairAt file e) i) (o .edges) (o .edge)) false 1024 (32 * n + t) l
         ∙ any-same (λ e. double file e && eqb (pairAt file e) (32 * n + t)) (λ e. carries file n t e && double file e) (o .edges) (o .edge)
-        (λ e k. ap (λ (b : Bool). double file (o .edge + e) && b) (pair-carries e k) ∙ and-swap (double file (o .edge + e)) (carries file n t (o .edge + e)))
+        (λ e k. ap (λ (b : Bool). double file (o .edge + e) && b) (pair-carries e k) ∙ and-comm (double file (o .edge + e)) (carries file n t (o .edge + e)))
 
     mark-at : (j : ℕ) → j < 32 → 32 * (32 * n + t) + j < 32768
         → getD (edgeMarksOf file o) (32 * (32 * n + t) + j) false ≡ any (λ e. carries file n t e && eqb (fieldC file e) j) (o .edges) (o .edge)
@@ -189,8 +175,7 @@ module _ (file : List ℕ) (o : Outline) (r : readOf file ≡ Reading.Readable o
     unfolding heldNodesOf
     held-at n l =
         let m = few-nodes in
-        tabulate-at (λ n. cond (ltb n (o .nodes)) (holdsOf file (getD nodes n 0 + 1) state) false) false 32 n (omega arith)
-        ∙ rw (lt-ltb n (o .nodes) l) (node-holds n l)
+        table-at 32 false (λ n. holdsOf file (getD nodes n 0 + 1) state) (o .nodes) n (omega arith) l ∙ node-holds n l
 
     some-held : any (λ n. getD held n false) (o .nodes) 0 ≡ someNode file o state
     unfolding someNode
@@ -309,7 +294,7 @@ module _ (file : List ℕ) (o : Outline) (r : readOf file ≡ Reading.Readable o
         (every-same (λ i. blockHolds file o i state) (λ n. every (λ t. allHold file o (movesOf file o n t) state) (o .transitions) 0) (end - from) 1 from
         (λ i l. node-block i)
         ∙ sym (transitions-are from end most))
-        ∙ and-all (openingHolds file (openingAt file o) (held state) (o .nodes) state)
+        ∙ and-assoc (openingHolds file (openingAt file o) (held state) (o .nodes) state)
         (coversHold file (qPlacesOf file o covers) (held state) covers state) _)
 
   -- ---- what the pass speaks of

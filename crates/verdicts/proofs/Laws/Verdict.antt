@@ -28,7 +28,7 @@ use Rattle.conditions.specs.declared.Condition.{Condition}
 use Rattle.conditions.specs.declared.Condition.the-variants.{Start, Entry, Cover, Range, Step, Enabling}
 use Rattle.report.specs.declared.Verdict.{Verdict}
 use Rattle.conditions.proofs.Laws.Each.{At, member-at}
-use Rattle.conditions.proofs.Laws.Search.{first-is, first-passes, first-fails}
+use Rattle.truths.proofs.Laws.First.{first-is, first-passes, first-fails}
 use Rattle.conditions.proofs.Laws.Condition.{condition-listed}
 
 refusal-above : (c : Condition) → 13 ≤ refusalNumber c

@@ -18,16 +18,16 @@ use Rattle.reading.proofs.Laws.Readable.{nodes-within}
 use Rattle.expressions.specs.Expression.{partAt, Fits, Spans}
 use Rattle.states.specs.State.{State, Within}
 use Rattle.conditions.specs.Layout.{layoutOf}
-use Rattle.conditions.specs.Search.{firstFailing}
+use Rattle.truths.specs.Search.{firstFailing, every}
 use Rattle.verdicts.specs.Verdict.{stateCount, stateAt}
-use Rattle.verdicts.specs.Acceptance.{every, blockHolds, heldBlocksOf, trueBlocksOf, heldStatesOf, foundOf, conditionsIn, heldNodesOf}
+use Rattle.verdicts.specs.Acceptance.{blockHolds, heldBlocksOf, trueBlocksOf, heldStatesOf, foundOf, conditionsIn, heldNodesOf}
 use Rattle.verdicts.specs.Acceptance.{openingHolds, coversHold, nodesHold, transitionsHold}
 use Rattle.verdicts.specs.Acceptance.{NodesFit, PlacesFit, PassFits, LookedUp, Tables, Begun}
 use Rattle.verdicts.specs.declared.acceptance.Found.{Found}
 use Rattle.conditions.specs.declared.Blocks.{Blocks}
 use Rattle.conditions.proofs.Laws.Condition.{layout-bounds}
-use Rattle.conditions.proofs.Laws.Search.{first-is, first-most, first-passes, first-fails, first-same, first-both}
-use Rattle.verdicts.proofs.Laws.Every.{every-true, every-at, every-last}
+use Rattle.truths.proofs.Laws.First.{first-is, first-most, first-passes, first-fails, first-same, first-both}
+use Rattle.truths.proofs.Laws.Every.{every-true, every-at, every-last}
 use Rattle.verdicts.proofs.Laws.Acceptance.{blocks-most, blocks-small, blocks-begun, blocks-parts, opening-fits, nodes-fit, places-fit, pass-fits}
 
 -- the nodes are few, and those that have no range and step conditions are among them

@@ -8,15 +8,15 @@ use native.Mathlib.Decide.{decLt}
 use native.Mathlib.Omega.{arith}
 use lib.ListN.{getD}
 use lib.IntN.{ℤ}
-use Rattle.records.specs.Search.{any}
+use Rattle.truths.specs.Search.{any, every}
 use Rattle.evaluating.specs.declared.Stepped.{Stepped}
 use Rattle.expressions.specs.Expression.{holdsOf}
 use Rattle.states.specs.State.{Within}
 use Rattle.evaluating.specs.Transition.{stepOf}
-use Rattle.runs.specs.Truth.{implies}
-use Rattle.verdicts.specs.Acceptance.{every, reachedOf, pairHolds}
-use Rattle.verdicts.proofs.Laws.Every.{every-true, every-false, none-passes}
-use Rattle.conditions.proofs.Laws.Search.{any-at}
+use Rattle.truths.specs.Truth.{implies}
+use Rattle.verdicts.specs.Acceptance.{reachedOf, pairHolds}
+use Rattle.truths.proofs.Laws.Every.{every-true, every-false}
+use Rattle.truths.proofs.Laws.Any.{none-passes, any-at}
 use Rattle.testing.proofs.Steps.Testing.{next-within}
 
 -- ---- the numbers passed

@@ -4,9 +4,9 @@ use mathlib.Core.Path.{_≡_, sym, _∙_}
 use Prim.Native.Nat.{_+_, _≤_}
 use native.Mathlib.Omega.{arith}
 use borrow.Author.Tests.{not-true, not-false}
-use Rattle.records.specs.Search.{refuseFirst}
+use Rattle.records.specs.Walk.{refuseFirst}
 use Rattle.reading.specs.Edge.{doubledOf, doublesOf}
-use Rattle.records.proofs.Laws.Search.{refuse-none, refuse-fails, refuse-next}
+use Rattle.records.proofs.Laws.Refuse.{refuse-none, refuse-fails, refuse-next}
 use Rattle.reading.proofs.Steps.Edge.{doubles-none, doubles-chain}
 use Rattle.reading.proofs.edges.doubles.Statement.{statement}
 use Rattle.reading.proofs.edges.doubles.Tie as tie

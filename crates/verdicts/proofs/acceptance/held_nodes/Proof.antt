@@ -8,7 +8,7 @@ use borrow.Author.Needs.{needs}
 use lib.ListN.{getD}
 use Rattle.expressions.specs.Expression.{holdsOf}
 use Rattle.verdicts.specs.Acceptance.{heldNodesOf}
-use Rattle.verdicts.proofs.Steps.Acceptance.{table-none, table-more}
+use Rattle.records.proofs.Laws.Table.{table-none, table-more}
 use Rattle.verdicts.proofs.acceptance.held_nodes.Statement.{statement}
 use Rattle.verdicts.proofs.acceptance.held_nodes.Tie as tie
 
@@ -24,7 +24,7 @@ tried s k = holdsOf (s .args .file .now) (getD (s .args .nodes .now) k 0 + 1) (s
 
 loop-holds : tie.Need-loop-holds Inv-loop μ-loop
 unfolding heldNodesOf
-loop-holds c = (omega arith, sym (table-none (tried (c .before)) false))
+loop-holds c = (omega arith, sym (table-none 32 false (tried (c .before))))
 
 mul-at : tie.Need-mul-at Inv-loop μ-loop
 mul-at c = omega (arith, c .before .before .before .pre .1 .few)
@@ -52,7 +52,7 @@ unfolding heldNodesOf
 loop-again c =
     let s = c .before .before .before .before .before in (
       omega arith,
-      rw (c .holds .ensures, c .before .before .before .loop .inv .1) (table-more (tried s) false _ (omega (arith, s .pre .1 .few))),
+      rw (c .holds .ensures, c .before .before .before .loop .inv .1) (table-more 32 false (tried s) _ (omega (arith, s .pre .1 .few))),
     )
 
 returns : tie.Need-returns Inv-loop μ-loop

@@ -8,7 +8,7 @@ use native.Mathlib.Omega.{arith}
 use lib.ListN.{getD}
 use borrow.Author.Needs.{needs}
 use borrow.Author.Tests.{not-true, not-false}
-use Rattle.runs.specs.Truth.{implies}
+use Rattle.truths.specs.Truth.{implies}
 use Rattle.verdicts.specs.Acceptance.{pairHolds, nodesHold}
 use Rattle.verdicts.proofs.Steps.Pass.{Passed, passed-begin, passed-more, passed-all, passed-fails, implies-idle, implies-asked}
 use Rattle.verdicts.proofs.acceptance.nodes_hold.Statement.{statement}

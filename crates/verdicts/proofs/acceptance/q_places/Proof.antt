@@ -7,7 +7,7 @@ use borrow.Author.Needs.{needs}
 use Rattle.testing.specs.Diagram.{qAt}
 use Rattle.verdicts.specs.Acceptance.{qPlacesOf}
 use Rattle.conditions.proofs.Laws.Condition.{layout-bounds}
-use Rattle.verdicts.proofs.Steps.Acceptance.{table-none, table-more}
+use Rattle.records.proofs.Laws.Table.{table-none, table-more}
 use Rattle.verdicts.proofs.acceptance.q_places.Statement.{statement}
 use Rattle.verdicts.proofs.acceptance.q_places.Tie as tie
 
@@ -26,7 +26,7 @@ module _ (s : tie.Start Inv-loop μ-loop) where
 
 loop-holds : tie.Need-loop-holds Inv-loop μ-loop
 unfolding qPlacesOf
-loop-holds c = (omega arith, sym (table-none (qAt _ _) 0))
+loop-holds c = (omega arith, sym (table-none 32 0 (qAt _ _)))
 
 q-at-requires : tie.Need-q-at-requires Inv-loop μ-loop
 q-at-requires c κs = (c .before .before .before .pre .0, omega (arith, covered (c .before .before .before)))
@@ -47,7 +47,7 @@ loop-again : tie.Need-loop-again Inv-loop μ-loop
 unfolding qPlacesOf
 loop-again c = (
   omega arith,
-  rw (c .q-at .ensures, c .before .before .loop .inv .1) (table-more (qAt _ _) 0 _ (omega (arith, few (c .before .before .before .before)))),
+  rw (c .q-at .ensures, c .before .before .loop .inv .1) (table-more 32 0 (qAt _ _) _ (omega (arith, few (c .before .before .before .before)))),
 )
 
 returns : tie.Need-returns Inv-loop μ-loop

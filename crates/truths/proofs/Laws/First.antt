@@ -3,26 +3,14 @@
 --     first-most, first-passes, first-fails     it is at most n; the numbers below it pass; it fails itself where it is below n
 --     first-same                           tests that agree at each number have the same first
 --     first-both                           the first that fails one of two tests, by the first that fails the other
---     any-at, any-same                     one number that passes is enough; tests that agree at each number agree
 -- Assumes nothing.
-use mathlib.Core.Path.{_≡_, refl, sym, ap₂, _∙_}
-use mathlib.Core.Bool.{Bool, true, false, cond, _&&_, _||_, false≢true, and-eq-true-iff}
+use mathlib.Core.Path.{_≡_, refl, sym, _∙_}
+use mathlib.Core.Bool.{Bool, true, false, cond, _&&_, false≢true, and-eq-true-iff}
 use Prim.Native.Nat.{ℕ, zero, suc, _+_, _≤_, _<_}
 use native.Mathlib.Decide.{decLt}
 use native.Mathlib.Omega.{arith}
-use Rattle.records.specs.Search.{any}
-use Rattle.conditions.specs.Search.{firstFailingFrom, firstFailing}
-
-pub or-second : (a b : Bool) → b ≡ true → (a || b) ≡ true
-or-second true b e = refl
-or-second false b e = e
-
-no-first : (a b : Bool) → a ≡ false → (a && b) ≡ false
-no-first a b e = rw e
-
-no-second : (a b : Bool) → b ≡ false → (a && b) ≡ false
-no-second true b e = e
-no-second false b e = refl
+use Rattle.truths.specs.Search.{firstFailingFrom, firstFailing}
+use Rattle.truths.proofs.Laws.Truth.{and-first, and-second}
 
 module _ (test : ℕ → Bool) where
   from-is : (n at r : ℕ) → at ≤ r → r ≤ at + n → ((k : ℕ) → at ≤ k → k < r → test k ≡ true) → (r < at + n → test r ≡ false) → firstFailingFrom test n at ≡ r
@@ -86,15 +74,6 @@ module _ (test : ℕ → Bool) where
   unfolding firstFailing
   first-fails n h = from-fails n 0 (omega arith)
 
-  -- ---- one of several
-  pub any-at : (n at i : ℕ) → i < n → test (at + i) ≡ true → any test n at ≡ true
-  unfolding any
-  any-at zero at i l t = absurd (omega arith)
-  any-at (suc n) at zero l t = let z : at + 0 ≡ at = omega arith in rw (rw z at t)
-  any-at (suc n) at (suc i) l t =
-      let z : at + suc i ≡ at + 1 + i = omega arith in
-      or-second (test at) (any test n (at + 1)) (any-at n (at + 1) i (omega arith) (rw z at t))
-
 pub first-same : (f g : ℕ → Bool) (n : ℕ) → ((i : ℕ) → i < n → f i ≡ g i) → firstFailing f n ≡ firstFailing g n
 first-same f g n e =
     let m = first-most g n in
@@ -114,15 +93,8 @@ first-both f g n = go (firstFailing f n) refl (firstFailing g (firstFailing f n)
         (λ l. fails l (decLt q p))
       where
         fails : q < n → Dec (q < p) → (f q && g q) ≡ false
-        fails l (yes m) = no-second (f q) (g q) (rw it at (first-fails g (firstFailing f n) (rw (it, is) m)))
+        fails l (yes m) = and-second (f q) (g q) (rw it at (first-fails g (firstFailing f n) (rw (it, is) m)))
         fails l (no m) =
             let b : q ≤ p = rw (it, is) at (first-most g (firstFailing f n)) in
             let same : p ≡ q = omega arith in
-            no-first (f q) (g q) (rw (is, same) at (first-fails f n (rw (is, same) l)))
-
-pub any-same : (f g : ℕ → Bool) (n at : ℕ) → ((i : ℕ) → i < n → f (at + i) ≡ g (at + i)) → any f n at ≡ any g n at
-unfolding any
-any-same f g zero at e = refl
-any-same f g (suc n) at e =
-    ap₂ _||_ (let z : at + 0 ≡ at = omega arith in rw z at (e 0 (omega arith)))
-    (any-same f g n (at + 1) (λ i l. let z : at + 1 + i ≡ at + suc i = omega arith in rw z (e (suc i) (omega arith))))
+            and-first (f q) (g q) (rw (is, same) at (first-fails f n (rw (is, same) l)))

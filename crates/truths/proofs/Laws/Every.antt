@@ -5,17 +5,15 @@
 --     every-same                   tests that agree at each number agree, also in two rows
 --     every-last                   one number more
 --     every-swap                   in two rows, either may be the outer one
---     none-passes                  and of tests that none passes
 -- Assumes nothing.
 use mathlib.Core.Path.{_≡_, refl, sym, ap, ap₂, _∙_}
-use mathlib.Core.Bool.{Bool, true, false, _&&_, false≢true, and-eq-true-iff}
+use mathlib.Core.Bool.{Bool, true, false, _&&_, false≢true, and-eq-true-iff, and-true, and-assoc}
 use Prim.Native.Nat.{ℕ, zero, suc, _+_, _≤_, _<_}
 use native.Mathlib.Decide.{decLt}
 use native.Mathlib.Omega.{arith}
-use Rattle.records.specs.Search.{any}
-use Rattle.conditions.specs.Search.{firstFailing}
-use Rattle.verdicts.specs.Acceptance.{every}
-use Rattle.conditions.proofs.Laws.Search.{first-passes}
+use Rattle.truths.specs.Search.{every, firstFailing}
+use Rattle.truths.proofs.Laws.Truth.{same-truth}
+use Rattle.truths.proofs.Laws.First.{first-passes}
 
 module _ (test : ℕ → Bool) where
   pub every-true : (n at : ℕ) → ((k : ℕ) → at ≤ k → k < at + n → test k ≡ true) → every test n at ≡ true
@@ -50,12 +48,6 @@ module _ (test : ℕ → Bool) where
       go (yes l) = l
       go (no l) = absurd (false≢true (sym e ∙ every-true n 0 (λ k p q. first-passes test n k (omega arith))))
 
-  pub none-passes : (n at : ℕ) → ((k : ℕ) → at ≤ k → k < at + n → test k ≡ false) → any test n at ≡ false
-  unfolding any
-  none-passes zero at h = refl
-  none-passes (suc n) at h =
-      rw (h at (omega arith) (omega arith)) (none-passes n (at + 1) (λ k p q. h k (omega arith) (omega arith)))
-
 pub every-same : (f g : ℕ → Bool) (n at from : ℕ) → ((i : ℕ) → i < n → f (at + i) ≡ g (from + i)) → every f n at ≡ every g n from
 unfolding every
 every-same f g zero at from e = refl
@@ -70,25 +62,12 @@ every-same f g (suc n) at from e =
         let b : from + suc i ≡ from + 1 + i = omega arith in
         rw (a, b) at h
 
-and-assoc : (a b c : Bool) → (a && (b && c)) ≡ ((a && b) && c)
-and-assoc true b c = refl
-and-assoc false b c = refl
-
 pub every-last : (test : ℕ → Bool) (n at : ℕ) → every test (suc n) at ≡ (every test n at && test (at + n))
 unfolding every
-every-last test zero at = let z : at + 0 ≡ at = omega arith in rw z (and-none (test at))
-  where
-    and-none : (a : Bool) → (a && true) ≡ a
-    and-none true = refl
-    and-none false = refl
+every-last test zero at = let z : at + 0 ≡ at = omega arith in rw z (and-true (test at))
 every-last test (suc n) at =
     let z : at + 1 + n ≡ at + suc n = omega arith in
-    ap (λ (b : Bool). test at && b) (rw z at (every-last test n (at + 1))) ∙ and-assoc (test at) (every test n (at + 1)) (test (at + suc n))
-
-same-truth : (a b : Bool) → (a ≡ true → b ≡ true) → (b ≡ true → a ≡ true) → a ≡ b
-same-truth true b f g = sym (f refl)
-same-truth false true f g = g refl
-same-truth false false f g = refl
+    ap (λ (b : Bool). test at && b) (rw z at (every-last test n (at + 1))) ∙ sym (and-assoc (test at) (every test n (at + 1)) (test (at + suc n)))
 
 module _ (test : ℕ → ℕ → Bool) (n at m from : ℕ) where
   rows : every (λ i. every (λ j. test i j) m from) n at ≡ true → every (λ j. every (λ i. test i j) n at) m from ≡ true

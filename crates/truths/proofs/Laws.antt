@@ -1,0 +1,5 @@
+-- Laws of the definitions, for the crates above.
+pub mod Truth
+pub mod Any
+pub mod First
+pub mod Every

@@ -1,0 +1,3 @@
+-- Truths, and tests of numbers in a row.
+pub mod Truth
+pub mod Search

@@ -1,0 +1,1 @@
+// Truths, and tests of numbers in a row: definitions and laws alone.

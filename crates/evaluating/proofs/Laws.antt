@@ -2,3 +2,4 @@
 pub mod Transition
 pub mod Readable
 pub mod Count
+pub mod Step

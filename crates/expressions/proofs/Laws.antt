@@ -2,3 +2,4 @@
 pub mod Expression
 pub mod Sound
 pub mod Span
+pub mod Part

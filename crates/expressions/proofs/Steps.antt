@@ -1,4 +1,3 @@
 -- What the proofs of the code share.
-pub mod Part
 pub mod Span
 pub mod Expression

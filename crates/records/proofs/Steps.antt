@@ -2,4 +2,3 @@
 pub mod Record
 pub mod Walk
 pub mod Kind
-pub mod Place

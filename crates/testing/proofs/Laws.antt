@@ -1,2 +1,3 @@
 pub mod Targets
+pub mod Marks
 pub mod Testing

@@ -21,13 +21,14 @@ use states::highs;
 use states::lows;
 use states::state_of;
 use testing::concludes;
+use testing::passes;
 use testing::test_of;
 ghost use mathlib.Core.Path.{_≡_};
 ghost use Prim.Native.Nat.{_≤_};
 ghost use Rattle.reading.specs.declared.Reading.{Reading};
 ghost use Rattle.reading.specs.Read.{readOf};
 ghost use Rattle.conditions.specs.Condition.{totalOf, nodeNumber, transitionNumber};
-ghost use Rattle.verdicts.specs.Verdict.{stateCount, unnamedOf, namedOf, judgedOf, verdictBy};
+ghost use Rattle.verdicts.specs.Verdict.{stateCount, unnamedOf, namedOf, judgedOf, verdictBy, singleJudged, singleOf};
 ghost use Rattle.verdicts.specs.Acceptance.{LookedUp, Begun};
 
 // What a single test answers: the refusal that meets it, with its number and its place; or whether the condition holds at the state.
@@ -212,5 +213,47 @@ pub fn verdict(file: &[u8]) -> Verdict
     match found {
         Reading::Readable(outline) => judge(file, outline),
         Reading::Refused(number, place) => unnamed(number, place as u32),
+    }
+}
+
+// The single test of a readable file.
+fn tested(file: &[u8], outline: Outline, condition: usize, state: usize) -> Single
+    requires { ⌜ readOf (now file) ≡ Reading.Readable outline ⌝ }
+    ensures { λ r. ⌜ r ≡ singleJudged (now (file .entry)) outline condition state ⌝ }
+{
+    if total(file, outline) <= condition {
+        return Single::Refused(11, 0);
+    }
+    let low = lows(file, outline.vars);
+    let high = highs(file, outline.vars);
+    if count(low, high) <= state {
+        return Single::Refused(12, 0);
+    }
+    let nodes = node_places(file, outline.vars, outline.nodes, outline.node);
+    let transitions = transition_places(
+        file,
+        outline.vars,
+        outline.transitions,
+        outline.transition,
+    );
+    let condition = condition_at(file, outline, condition);
+    let test = test_of(file, outline, nodes, transitions, condition);
+    let s = state_of(low, high, state);
+    let spans = spans_of(file);
+    if passes(file, &spans, low, high, test, s) {
+        Single::Holds
+    } else {
+        Single::Fails
+    }
+}
+
+// The answer of the single test of a condition at a state, by their numbers.
+pub fn answer(file: &[u8], condition: usize, state: usize) -> Single
+    ensures { λ r. ⌜ r ≡ singleOf (now (file .entry)) condition state ⌝ }
+{
+    let found = read(file);
+    match found {
+        Reading::Readable(outline) => tested(file, outline, condition, state),
+        Reading::Refused(number, place) => Single::Refused(number, place),
     }
 }

@@ -7,7 +7,7 @@ use Rattle.integers.proofs.Laws.Parts.{back}
 use Rattle.records.specs.Kind.{number as numberSort}
 use Rattle.evaluating.specs.Transition.{assignmentAt}
 use Rattle.expressions.proofs.Laws.Expression.{fits-here}
-use Rattle.expressions.proofs.Steps.Part.{take-rest, lent, entry, behind-is, behind-within}
+use Rattle.expressions.proofs.Laws.Part.{take-rest, lent, entry, behind-is, behind-within}
 use borrow.Author.Needs.{needs}
 use Rattle.evaluating.proofs.assignment_at.Statement.{statement}
 use Rattle.evaluating.proofs.assignment_at.Tie as tie

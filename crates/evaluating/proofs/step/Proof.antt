@@ -7,7 +7,7 @@ use borrow.Author.Tests.{not-true, not-false}
 use Rattle.records.specs.Kind.{truth as truthSort}
 use Rattle.evaluating.specs.Transition.{guardOf}
 use Rattle.expressions.proofs.Laws.Expression.{fits-here}
-use Rattle.expressions.proofs.Steps.Part.{take-rest, lent, entry, behind-is, behind-within}
+use Rattle.expressions.proofs.Laws.Part.{take-rest, lent, entry, behind-is, behind-within}
 use Rattle.evaluating.proofs.Steps.Transition.{step-off, step-on}
 use borrow.Author.Needs.{needs}
 use Rattle.evaluating.proofs.step.Statement.{statement}

@@ -1,7 +1,7 @@
 -- `expressions::after` meets its contract. Assumes nothing.
 use borrow.Author.Needs.{needs}
 use Prim.Native.Nat.{_*_}
-use Rattle.expressions.proofs.Steps.Part.{take-rest}
+use Rattle.expressions.proofs.Laws.Part.{take-rest}
 use Rattle.expressions.proofs.after.Statement.{statement}
 use Rattle.expressions.proofs.after.Tie as tie
 

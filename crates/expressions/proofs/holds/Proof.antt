@@ -5,7 +5,7 @@ use lib.ListN.{length}
 use Rattle.records.specs.Kind.{truth as truthSort}
 use Rattle.expressions.specs.Expression.{holdsOf}
 use Rattle.expressions.proofs.Laws.Expression.{fits-here}
-use Rattle.expressions.proofs.Steps.Part.{take-rest, lent}
+use Rattle.expressions.proofs.Laws.Part.{take-rest, lent}
 use borrow.Author.Needs.{needs}
 use Rattle.expressions.proofs.holds.Statement.{statement}
 use Rattle.expressions.proofs.holds.Tie as tie

@@ -7,7 +7,7 @@ use Prim.Native.Nat.{_-_, _/_, _≤_}
 use lib.ListN.{length}
 use Rattle.sections.specs.Section.{nodeOf}
 use Rattle.records.proofs.Laws.Walk.{walk-bound}
-use Rattle.records.proofs.Steps.Place.{Filled, filled-begins, filled-done, filled-more, filled-refused}
+use Rattle.records.proofs.Laws.Place.{Filled, filled-begins, filled-done, filled-more, filled-refused}
 use Rattle.sections.proofs.node_places.Statement.{statement}
 use Rattle.sections.proofs.node_places.Tie as tie
 

@@ -2,6 +2,7 @@
 --     prepared      the test of a condition says what the condition says
 --     test-fits     what it speaks of can be evaluated at every state
 --     node-fits, claimed-fits, q-fits, transition-fits     and so can each node, claim, q and transition
+--     passes-vacuous, passes-concluded     a test passes where its premise does not hold, else by its conclusion
 -- Assumes nothing.
 use mathlib.Core.Path.{_≡_, refl, ap, _∙_}
 use mathlib.Core.Bool.{Bool, true, false, not, cond, _&&_, _||_, or-false}
@@ -27,6 +28,7 @@ use Rattle.testing.specs.Diagram.{nodeAt, nodeHolds, startHolds, claimed
 use Rattle.conditions.specs.Condition.{Listed}
 use Rattle.truths.specs.Truth.{implies}
 use Rattle.testing.specs.Holding.{guardHolds, valuesFit, isEnabled, nextState, someNode, someTarget, conditionHolds}
+use Rattle.testing.specs.declared.Test.{Test}
 use Rattle.testing.specs.Testing.{marksOf, chosenFrom, targetsOf, chosenOf, nodePlaces, preparedOf, testOf, someHolds, concludesOf, passesOf}
 use Rattle.testing.specs.Testing.{TruthFits, TestFits}
 use Rattle.conditions.specs.declared.Condition.{Condition}
@@ -184,3 +186,15 @@ module _ (file : List ℕ) (o : Outline) (r : readOf file ≡ Reading.Readable o
 
   pub test-fits : TestFits (lowsOf file (o .vars)) (highsOf file (o .vars)) file (testOf file o c)
   test-fits = fits file o r c (listed-parts file o r c listed)
+
+-- ---- a test, by its premise
+module _ (lows highs : List ℤ) (file : List ℕ) (test : Test) (state : List ℤ) where
+  module _ {p : Bool} (is : p ≡ holdsOf file (test .premise) state) where
+    pub passes-vacuous : p ≡ false → passesOf lows highs file test state ≡ true
+    unfolding passesOf implies
+    passes-vacuous t = rw (← is, t)
+
+    pub passes-concluded : p ≡ true → {q : Bool} → q ≡ concludesOf lows highs file test (test .conclusion) state
+        → passesOf lows highs file test state ≡ q
+    unfolding passesOf implies
+    passes-concluded t e = rw (← is, t, e)

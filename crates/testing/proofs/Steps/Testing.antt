@@ -1,30 +1,22 @@
--- The marks of edges, the places chosen and the truths tried, one after the other; and a test, by what its premise and its step say.
+-- The places chosen and the truths tried, one after the other; and a test, by what its step says.
 -- Assumes nothing.
 use mathlib.Core.Path.{_≡_, refl, sym, ap, subst, _∙_}
-use mathlib.Core.Bool.{Bool, true, false, not, cond, _&&_, _||_, false≢true, and-eq-true-iff}
+use mathlib.Core.Bool.{Bool, true, false, not, cond, _||_, false≢true}
 use mathlib.Core.List.{List, [], _∷_, _++_, append-nil, append-assoc}
-use Prim.Native.Nat.{ℕ, zero, suc, _+_, _*_, _-_, _≤_, _<_}
+use Prim.Native.Nat.{ℕ, suc, _+_, _-_, _≤_, _<_}
 use native.Mathlib.Numerals.{add-one}
 use native.Mathlib.Omega.{arith}
-use borrow.Author.Tests.{eqb-true, eqb-false, eq-eqb, ne-eqb}
-use lib.ListN.{length, getD, set, take, drop, replicate, length-set, length-append, length-replicate, getD-replicate, drop-of-length-le}
-use lib.Seq.{getD-set-same, getD-set-other, ext-getD, set-at, drop-cons, getD-take, length-take-le}
+use lib.ListN.{length, getD, set, take, drop, replicate, length-append, drop-of-length-le}
+use lib.Seq.{set-at, drop-cons, getD-take, length-take-le}
 use lib.Dec.{eqb}
 use lib.IntN.{ℤ}
 use Rattle.parsing.specs.declared.Outline.{Outline}
-use Rattle.records.specs.Record.{fieldC}
-use Rattle.records.specs.Table.{tabulate}
-use Rattle.truths.specs.Search.{any}
-use Rattle.records.proofs.Laws.Table.{length-tabulate, getD-tabulate}
 use Rattle.reading.specs.declared.Reading.{Reading}
 use Rattle.reading.specs.Edge.{transitionAt}
 use Rattle.reading.specs.Read.{readOf}
-use Rattle.reading.proofs.Laws.Readable as readable
 use Rattle.evaluating.specs.declared.Stepped.{Stepped}
 use Rattle.expressions.specs.Expression.{holdsOf}
-use Rattle.states.specs.State.{Within}
-use Rattle.evaluating.specs.Transition.{guardOf, assignmentList, allInRange, enabledOf, successorOf, stepOf}
-use Rattle.evaluating.proofs.Laws.Transition.{assigned-within}
+use Rattle.evaluating.specs.Transition.{guardOf, enabledOf, stepOf}
 use Rattle.conditions.specs.declared.Condition.{Condition}
 use Rattle.conditions.specs.declared.Condition.the-variants.{Start, Entry, Cover, Range, Step, Enabling}
 use Rattle.testing.specs.declared.Conclusion.{Conclusion}
@@ -35,143 +27,14 @@ use Rattle.testing.specs.Diagram.{nodeAt, claimedAt, qAt}
 use Rattle.conditions.specs.Condition.{Listed}
 use Rattle.truths.specs.Truth.{implies}
 use Rattle.truths.proofs.Laws.Truth.{implies-or}
-use Rattle.truths.proofs.Laws.Any.{any-last}
 use Rattle.testing.specs.Testing.{marksOf, chosenFrom, targetsOf, chosenOf, nodePlaces, transitionPlaces, preparedOf, testOf}
-use Rattle.testing.specs.Testing.{someHolds, targetsListed, concludesOf, passesOf}
+use Rattle.testing.specs.Testing.{someHolds, targetsListed, concludesOf}
 use Rattle.conditions.specs.Layout.{doubleOf}
-use Rattle.conditions.specs.Edges.{pairAt}
 use Rattle.conditions.proofs.Laws.Condition.{Parts, listed-parts}
 use Rattle.conditions.proofs.Laws.Double.{double-is}
-use Rattle.testing.proofs.Laws.Targets.{isMarked, chosen-last, chosen-most, node-at, transition-at, node-small}
-
--- ---- the marks of edges
--- the record of edge e is there, in a small file; its target is one of at most 32 nodes, and its pair one of at most 1,024
-pub record EdgeHere (file : List ℕ) (o : Outline) (e : ℕ) : Type 0 where
-  pub there : 8 * (o .edge + e) + 8 ≤ length file
-  pub small : length file ≤ 32768
-  pub target : fieldC file (o .edge + e) < 32
-  pub pair : pairAt file (o .edge + e) < 1024
-
-pub edge-here : (file : List ℕ) (o : Outline) → readOf file ≡ Reading.Readable o → (e : ℕ) → e < o .edges → EdgeHere file o e
-unfolding pairAt
-edge-here file o r e l =
-    let x = readable.edge file o r e l in
-    let few = readable.nodes-within file o r .1 in
-    record {
-      there = omega (arith, readable.fits file o r .edges-here);
-      small = readable.small file o r;
-      target = omega (arith, x .to);
-      pair = omega (arith, x .from, x .transition, readable.transitions-within file o r);
-    }
-
-eqb-swap : (a b : ℕ) → eqb a b ≡ eqb b a
-eqb-swap a b = by (eqb b a) refl
-  where
-    by : (t : Bool) → eqb b a ≡ t → eqb a b ≡ t
-    by true is = eq-eqb a b (sym (eqb-true b a is))
-    by false is = ne-eqb a b (λ e. eqb-false b a is (sym e))
-
-set-mark : (l : List Bool) (i j : ℕ) (v : Bool) → i < length l → getD (set l i v) j false ≡ cond (eqb j i) v (getD l j false)
-set-mark l i j v h = by (eqb j i) refl
-  where
-    by : (b : Bool) → eqb j i ≡ b → getD (set l i v) j false ≡ cond b v (getD l j false)
-    by true is = subst (λ (k : ℕ). getD (set l i v) k false ≡ v) (sym (eqb-true j i is)) (getD-set-same l i v false h)
-    by false is = getD-set-other l i j v false (eqb-false j i is)
-
-mark-first : (b keep : Bool) → cond b keep false ≡ ((keep && b) || false)
-mark-first true true = refl
-mark-first true false = refl
-mark-first false true = refl
-mark-first false false = refl
-
-mark-more : (b a r : Bool) → cond b true (a || r) ≡ (a || (r || b))
-mark-more true true r = refl
-mark-more true false true = refl
-mark-more true false false = refl
-mark-more false true r = refl
-mark-more false false true = refl
-mark-more false false false = refl
-
-mark-same : (a r : Bool) → (a || r) ≡ (a || (r || false))
-mark-same true r = refl
-mark-same false true = refl
-mark-same false false = refl
-
-module _ (size : ℕ) (keep : Bool) (n edges edge : ℕ) (carried : ℕ → Bool) (to : ℕ → ℕ) where
-  -- the marks that the first e edges make
-  pub record Marked (marks : List Bool) (e : ℕ) : Type 0 where
-    pub passed : e ≤ edges
-    pub long : length marks ≡ size
-    pub each : (j : ℕ) → j < size → getD marks j false ≡ isMarked keep n e edge carried to j
-
-  module _ {marks : List Bool} {e : ℕ} (k : Marked marks e) where
-    pub marked-end : edges ≤ e → marks ≡ tabulate (isMarked keep n edges edge carried to) size 0
-    marked-end l =
-        let same : e ≡ edges = omega (arith, k .passed) in
-        let mark = isMarked keep n edges edge carried to in
-        ext-getD false marks (tabulate mark size 0) (k .long ∙ sym (length-tabulate mark size 0))
-        (λ j m. entry same j (subst (λ (s : ℕ). j < s) (k .long) m))
-      where
-        entry : e ≡ edges → (j : ℕ) → j < size → getD marks j false ≡ getD (tabulate (isMarked keep n edges edge carried to) size 0) j false
-        entry same j m =
-            k .each j m
-            ∙ ap (λ (c : ℕ). isMarked keep n c edge carried to j) same
-            ∙ ap (isMarked keep n edges edge carried to) (omega arith)
-            ∙ sym (getD-tabulate (isMarked keep n edges edge carried to) false size 0 j m)
-
-    module _ (l : e < edges) where
-      -- the next edge is carried: its target is marked
-      pub marked-hit : {at : ℕ} → at ≡ to (edge + e) → to (edge + e) < size → carried (edge + e) ≡ true → Marked (set marks at true) (e + 1)
-      marked-hit {at} is h c =
-          record {
-            passed = omega arith;
-            long = length-set marks at true ∙ k .long;
-            each = λ j m.
-                set-mark marks at j true (omega (arith, is, h, k .long))
-                ∙ ap (cond (eqb j at) true) (k .each j m)
-                ∙ mark-more (eqb j at) (keep && eqb j n) (any (λ x. carried x && eqb (to x) j) e edge)
-                ∙ ap (λ (b : Bool). (keep && eqb j n) || b) (next j);
-          }
-        where
-          next : (j : ℕ) → (any (λ x. carried x && eqb (to x) j) e edge || eqb j at) ≡ any (λ x. carried x && eqb (to x) j) (e + 1) edge
-          next j = rw (add-one, any-last (λ x. carried x && eqb (to x) j) e edge, c, ← is, eqb-swap j at)
-
-      pub marked-miss : carried (edge + e) ≡ false → Marked marks (e + 1)
-      marked-miss c =
-          record {
-            passed = omega arith;
-            long = k .long;
-            each = λ j m.
-                k .each j m
-                ∙ mark-same (keep && eqb j n) (any (λ x. carried x && eqb (to x) j) e edge)
-                ∙ ap (λ (b : Bool). (keep && eqb j n) || b) (next j);
-          }
-        where
-          next : (j : ℕ) → (any (λ x. carried x && eqb (to x) j) e edge || false) ≡ any (λ x. carried x && eqb (to x) j) (e + 1) edge
-          next j = rw (add-one, any-last (λ x. carried x && eqb (to x) j) e edge, c)
-
--- no edge has passed: at most what is kept is marked
-module _ (size n edges edge : ℕ) (carried : ℕ → Bool) (to : ℕ → ℕ) where
-  pub marked-none : Marked size false n edges edge carried to (replicate size false) 0
-  unfolding any
-  marked-none =
-      record {
-        passed = omega arith;
-        long = length-replicate {A = Bool} size false;
-        each = λ j m. getD-replicate {A = Bool} size j false false m;
-      }
-
-  pub marked-kept : (keep : Bool) → n < size → Marked size keep n edges edge carried to (set (replicate size false) n keep) 0
-  unfolding any
-  marked-kept keep l =
-      record {
-        passed = omega arith;
-        long = length-set (replicate size false) n keep ∙ marked-none .long;
-        each = λ j m.
-            set-mark (replicate size false) n j keep (omega (arith, marked-none .long))
-            ∙ ap (cond (eqb j n) keep) (marked-none .each j m)
-            ∙ mark-first (eqb j n) keep;
-      }
+use Rattle.testing.proofs.Laws.Targets.{chosen-last, chosen-most, node-at, transition-at, node-small}
+use Rattle.evaluating.proofs.Laws.Step.{step-enabled, step-next}
+use Rattle.testing.proofs.Laws.Marks.{eqb-swap}
 
 -- ---- the places chosen
 module _ (marks : List Bool) (nodes : List ℕ) where
@@ -253,33 +116,7 @@ steps Conclusion.Enabled = true
 pub steps-apart : {k c : Conclusion} → k ≡ c → steps c ≡ true → k ≡ Conclusion.SomeTarget → ⊥
 steps-apart e t f = false≢true (ap steps (sym f ∙ e) ∙ t)
 
-module _ (lows highs : List ℤ) (file : List ℕ) (at : ℕ) (state : List ℤ) {s : Stepped} (is : s ≡ stepOf lows highs file at state) where
-  enabled-is : s .enabled ≡ enabledOf lows highs file at state
-  unfolding stepOf
-  enabled-is = ap (λ (r : Stepped). r .enabled) is
-
-  module _ (e : s .enabled ≡ true) where
-    next-is : s .next ≡ successorOf file at state
-    unfolding stepOf
-    next-is = ap (λ (r : Stepped). r .next) is ∙ rw (← enabled-is, e)
-
-    pub next-within : Within lows highs state → Within lows highs (s .next)
-    unfolding successorOf enabledOf
-    next-within w =
-        let b = and-eq-true-iff (guardOf file at state) (allInRange lows highs (assignmentList file at state)) .0 (sym enabled-is ∙ e) in
-        rw next-is (assigned-within lows highs (assignmentList file at state) state w (b .1))
-
 module _ (lows highs : List ℤ) (file : List ℕ) (test : Test) (state : List ℤ) where
-  module _ {p : Bool} (is : p ≡ holdsOf file (test .premise) state) where
-    pub passes-vacuous : p ≡ false → passesOf lows highs file test state ≡ true
-    unfolding passesOf implies
-    passes-vacuous t = rw (← is, t)
-
-    pub passes-concluded : p ≡ true → {q : Bool} → q ≡ concludesOf lows highs file test (test .conclusion) state
-        → passesOf lows highs file test state ≡ q
-    unfolding passesOf implies
-    passes-concluded t e = rw (← is, t, e)
-
   pub concludes-some : test .conclusion ≡ Conclusion.SomeTarget
       → someHolds file (targetsListed test) state ≡ concludesOf lows highs file test (test .conclusion) state
   unfolding concludesOf
@@ -287,7 +124,7 @@ module _ (lows highs : List ℤ) (file : List ℕ) (test : Test) (state : List �
 
   module _ {s : Stepped} (is : s ≡ stepOf lows highs file (test .transition) state) where
     enabled : s .enabled ≡ enabledOf lows highs file (test .transition) state
-    enabled = enabled-is lows highs file (test .transition) state is
+    enabled = step-enabled lows highs file (test .transition) state is
 
     pub concludes-range : test .conclusion ≡ Conclusion.ValuesInRange
         → (not (s .guard) || s .enabled) ≡ concludesOf lows highs file test (test .conclusion) state
@@ -310,7 +147,7 @@ module _ (lows highs : List ℤ) (file : List ℕ) (test : Test) (state : List �
         → someHolds file (targetsListed test) (s .next) ≡ concludesOf lows highs file test (test .conclusion) state
     unfolding concludesOf implies
     concludes-reached k e =
-        rw (k, ← enabled, e) (ap (someHolds file (targetsListed test)) (next-is lows highs file (test .transition) state is e))
+        rw (k, ← enabled, e) (ap (someHolds file (targetsListed test)) (step-next lows highs file (test .transition) state is e))
 
 -- ---- the test of a condition, by the tables of places
 module _ (file : List ℕ) (o : Outline) where

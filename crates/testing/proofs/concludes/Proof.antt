@@ -3,7 +3,8 @@
 use borrow.Author.Needs.{needs}
 use mathlib.Core.Path.{refl, _∙_}
 use borrow.Author.Tests.{not-true, not-false}
-use Rattle.testing.proofs.Steps.Testing.{steps-apart, next-within}
+use Rattle.evaluating.proofs.Laws.Step.{step-within}
+use Rattle.testing.proofs.Steps.Testing.{steps-apart}
 use Rattle.testing.proofs.Steps.Testing.{concludes-some, concludes-range, concludes-idle, concludes-reached, concludes-enabled}
 use Rattle.testing.proofs.concludes.Statement.{statement}
 use Rattle.testing.proofs.concludes.Tie as tie
@@ -37,7 +38,7 @@ returns c =
 some-holds-requires-2 : tie.Need-some-holds-requires-2
 some-holds-requires-2 c κs =
     let p = c .before .before .before .before .before .before .before .before .pre in
-    let w = next-within _ _ _ _ _ (c .before .before .before .step2 .ensures) (not-false _ (c .before .if1 .left)) (p .1 .0) in
+    let w = step-within _ _ _ _ _ (c .before .before .before .step2 .ensures) (not-false _ (c .before .if1 .left)) (p .1 .0) in
     (p .0, (p .1 .1 .few, λ i l. p .1 .1 .targets i l _ w))
 
 enum-told-4 : tie.Need-enum-told-4

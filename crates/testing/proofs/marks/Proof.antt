@@ -8,7 +8,7 @@ use Rattle.records.specs.Record.{fieldC}
 use Rattle.reading.proofs.Laws.Readable.{nodes-within}
 use Rattle.conditions.specs.Edges.{carries}
 use Rattle.testing.specs.Testing.{marksOf}
-use Rattle.testing.proofs.Steps.Testing.{EdgeHere, edge-here, Marked, marked-kept, marked-end, marked-hit, marked-miss}
+use Rattle.testing.proofs.Laws.Marks.{EdgeHere, edge-here, Marked, marked-kept, marked-end, marked-hit, marked-miss}
 use Rattle.testing.proofs.marks.Statement.{statement}
 use Rattle.testing.proofs.marks.Tie as tie
 

@@ -2,7 +2,7 @@
 use mathlib.Core.Path.{sym}
 use borrow.Author.Needs.{needs}
 use borrow.Author.Tests.{not-true, not-false}
-use Rattle.testing.proofs.Steps.Testing.{passes-vacuous, passes-concluded}
+use Rattle.testing.proofs.Laws.Testing.{passes-vacuous, passes-concluded}
 use Rattle.testing.proofs.passes.Statement.{statement}
 use Rattle.testing.proofs.passes.Tie as tie
 

@@ -17,7 +17,7 @@ use Rattle.truths.specs.Truth.{implies}
 use Rattle.verdicts.specs.Acceptance.{reachedOf, pairHolds}
 use Rattle.truths.proofs.Laws.Every.{every-true, every-false}
 use Rattle.truths.proofs.Laws.Any.{none-passes, any-at}
-use Rattle.testing.proofs.Steps.Testing.{next-within}
+use Rattle.evaluating.proofs.Laws.Step.{step-within}
 
 -- ---- the numbers passed
 -- of the n numbers from `at` up to `end`, those below i answer so
@@ -99,5 +99,5 @@ module _ (lows highs : List ℤ) (file : List ℕ) (at : ℕ) (state : List ℤ)
   stepped-within w = go (s .enabled) refl
     where
       go : (b : Bool) → s .enabled ≡ b → Within lows highs (s .next)
-      go true e = next-within lows highs file at state is e w
+      go true e = step-within lows highs file at state is e w
       go false e = rw (next-stays e) w

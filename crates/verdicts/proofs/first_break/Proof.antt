@@ -11,7 +11,7 @@ use Rattle.verdicts.specs.Acceptance.{Searched}
 use Rattle.conditions.specs.Condition.{conditionAt}
 use Rattle.testing.specs.Holding.{conditionHolds}
 use Rattle.testing.specs.Testing.{passesOf}
-use Rattle.testing.proofs.Steps.Testing.{passes-vacuous, passes-concluded}
+use Rattle.testing.proofs.Laws.Testing.{passes-vacuous, passes-concluded}
 use Rattle.verdicts.proofs.Steps.Verdict.{Ready, looked-ready, state-asks, states-small, total-small, test-asks, named-asks}
 use Rattle.verdicts.proofs.Steps.Verdict.{StatesPassed, passed-begin, passed-from, passed-asks, advance-asks, passed-more, passed-broke, Broke}
 use Rattle.verdicts.proofs.Steps.Verdict.{searched-more, searched-broke, searched-end}

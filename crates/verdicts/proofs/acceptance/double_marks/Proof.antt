@@ -10,7 +10,7 @@ use borrow.Author.Needs.{needs}
 use Rattle.reading.specs.Edge.{double}
 use Rattle.conditions.specs.Edges.{pairAt}
 use Rattle.verdicts.specs.Acceptance.{doubleMarksOf}
-use Rattle.testing.proofs.Steps.Testing.{edge-here, Marked, marked-none, marked-end, marked-hit, marked-miss}
+use Rattle.testing.proofs.Laws.Marks.{edge-here, Marked, marked-none, marked-end, marked-hit, marked-miss}
 use Rattle.verdicts.proofs.acceptance.double_marks.Statement.{statement}
 use Rattle.verdicts.proofs.acceptance.double_marks.Tie as tie
 

@@ -7,7 +7,7 @@ use native.Mathlib.Omega.{arith}
 use Rattle.records.specs.Record.{fieldC}
 use Rattle.conditions.specs.Edges.{pairAt}
 use Rattle.verdicts.specs.Acceptance.{edgeMarksOf}
-use Rattle.testing.proofs.Steps.Testing.{edge-here, Marked, marked-none, marked-end, marked-hit}
+use Rattle.testing.proofs.Laws.Marks.{edge-here, Marked, marked-none, marked-end, marked-hit}
 use Rattle.verdicts.proofs.acceptance.edge_marks.Statement.{statement}
 use Rattle.verdicts.proofs.acceptance.edge_marks.Tie as tie
 

@@ -1,17 +1,17 @@
--- `judging::tested` meets its contract: the condition's test at the state of the number.
+-- `verdicts::tested` meets its contract: the condition's test at the state of the number.
 -- Assumes nothing.
 use mathlib.Core.Path.{_≡_, sym}
 use mathlib.Core.Bool.{cond}
 use native.Mathlib.Omega.{arith}
 use Rattle.reading.proofs.Laws.Readable.{small, variables-within}
 use Rattle.testing.specs.Testing.{nodePlaces, transitionPlaces}
 use Rattle.verdicts.specs.Verdict.{singleJudged}
 use Rattle.verdicts.specs.declared.Single.{Single}
 use Rattle.verdicts.proofs.Steps.Verdict.{count-is, count-asks, spans-serve, nodes-ask, transitions-ask, Ready, test-asks, state-asks}
 use Rattle.verdicts.proofs.Steps.Verdict.{single-asks, single-answers, tested-eleven, tested-twelve}
 use borrow.Author.Needs.{needs}
-use Rattle.judging.proofs.tested.Statement.{statement}
-use Rattle.judging.proofs.tested.Tie as tie
+use Rattle.verdicts.proofs.tested.Statement.{statement}
+use Rattle.verdicts.proofs.tested.Tie as tie
 
 abbrev start : tie.After-transition-places → tie.Start
 start c = c .before .before .before .before .before .before .before .before .before

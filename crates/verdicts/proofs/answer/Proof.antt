@@ -1,10 +1,10 @@
--- `judging::single` meets its contract, by the case that reading answers.
+-- `verdicts::answer`, by the case that reading answers.
 -- Assumes nothing.
 use mathlib.Core.Path.{sym, _∙_}
 use Rattle.verdicts.specs.Verdict.{singleBy, singleOf}
 use borrow.Author.Needs.{needs}
-use Rattle.judging.proofs.single.Statement.{statement}
-use Rattle.judging.proofs.single.Tie as tie
+use Rattle.verdicts.proofs.answer.Statement.{statement}
+use Rattle.verdicts.proofs.answer.Tie as tie
 
 read-requires : tie.Need-read-requires
 read-requires c κs = search needs
@@ -26,7 +26,7 @@ returns-2 : tie.Need-returns-2
 unfolding singleOf singleBy
 returns-2 c = simp (sym (c .before .before .before .read .ensures) ∙ c .before .found2 .given .1)
 
-pub single-spec : {M : Type 1} → statement M
-single-spec =
+pub answer-spec : {M : Type 1} → statement M
+answer-spec =
     tie.close
     (tie.spec read-requires enum-known-found tested-requires enum-known-found-2 returns returns-2)

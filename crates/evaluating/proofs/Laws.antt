@@ -1,5 +1,4 @@
 -- Laws of the definitions, for the proofs here and in the crates above.
 pub mod Transition
 pub mod Readable
-pub mod Count
 pub mod Step

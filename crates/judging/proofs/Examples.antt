@@ -5,31 +5,12 @@ use mathlib.Core.Path.{_≡_, refl}
 use mathlib.Core.List.{List, [], _∷_, _++_, map, flatten, List·Memᴰ}
 use Prim.Native.Nat.{ℕ}
 use lib.ListN.{length, take, drop, set, replicate}
-use Rattle.integers.specs.Bytes
-use Rattle.integers.specs.Interval as Ends
-use Rattle.integers.specs.Radix
-use Rattle.integers.specs.Tests
-use Rattle.records.specs.Record
-use Rattle.records.specs.Kind
-use Rattle.records.specs.Walk
-use Rattle.sections.specs.Section
-use Rattle.records.specs.Place
-use Rattle.records.specs.Table
-use Rattle.parsing.specs.Outline
-use Rattle.truths.specs.Search
 use Rattle.reading.specs.declared.Reading.{Reading}
-use Rattle.reading.specs.States
-use Rattle.intervals.specs.Interval
-use Rattle.reading.specs.Edge
-use Rattle.reading.specs.Read
 use Rattle.reading.specs.Read.{readOf}
 use Rattle.reading.proofs.Files.{agree, bytes, range, single, constant, variable, plain, A, B, C, D, E, F, G, H, I, J}
-use Rattle.expressions.specs.Expression
-use Rattle.states.specs.State
 use Rattle.states.specs.Number
-use Rattle.evaluating.specs.Transition
+use Rattle.truths.specs.Search
 use Rattle.conditions.specs.Edges
-use Rattle.testing.specs.Diagram
 use Rattle.conditions.specs.Condition
 use Rattle.conditions.specs.Condition.{conditionsOf}
 use Rattle.truths.specs.Truth
@@ -41,7 +22,7 @@ use Rattle.report.specs.Report.{reportOf}
 use Rattle.conditions.specs.declared.Condition.{Condition}
 use Rattle.conditions.specs.declared.Condition.the-variants.{Start, Entry, Cover, Range, Step, Enabling}
 use Rattle.verdicts.specs.declared.Single.{Single}
-use Rattle.judging.proofs.Counter.{Computed}
+use Rattle.soundness.proofs.Computing.{computing}
 
 -- ---- reports
 -- a buffer before the check
@@ -140,81 +121,25 @@ singles =
     ((F, 99, 99), Single.Refused 9 30) ∷
     []
 
--- ---- the columns of each table, computed
-columns : (map (λ (row : Row). checked (row .0)) table ≡ map reported table)
-    × (map (λ (row : Listing). listedBy (row .0)) lists ≡ map (λ (row : Listing). row .1) lists)
-    × (map (λ (row : Question × Single). answered (row .0)) singles ≡ map (λ (row : Question × Single). row .1) singles)
-    × Computed
-unfolding flatten Bytes.signed16 Bytes.lowByte Bytes.highByte Ends.minZ Ends.maxZ Ends.around Ends.overEnds Ends.inBounds
-    Radix.at Radix.offsetOf Tests.eqZ
-    Record.kindIs Record.zerosOf Record.sameBytes Kind.within Kind.formOf Kind.signatureOf
-    Walk.expressionFields Walk.inSequence Walk.recordThen Walk.walkOf Walk.spans Walk.span
-    Section.variableFields Section.transitionFields Section.assignmentFields Section.propertyFields Section.edgeFields Section.itemsOf
-    Section.variablesOf Section.assignmentsOf Section.transitionOf Section.transitionsOf Section.expressionsOf Section.phasesOr
-    Section.nodesOf Section.repeatedOf Section.edgesOf Table.tabulate Table.tableOf
-    Outline.edgesParsed Outline.nodesParsed Outline.propertyParsed Outline.transitionsParsed Outline.startParsed Outline.parsedOf
-    Search.any Walk.refuseFirst States.sizeAt States.statesOf
-    Interval.leafOf Interval.combine Interval.joinOf Interval.ownOf Interval.byOperands Interval.analysisOf Interval.analysedFrom Interval.intervalsOf
-    Edge.descending Edge.transitionAt Edge.justOf Edge.conflictOf Edge.chainRuleOf Edge.ruleOf Edge.rulesOf
-    Edge.doubleFrom Edge.doubledOf Edge.doublesOf
-    Read.stagesRead Read.parsedRead Read.readOf
-    Expression.firstOperand Expression.secondOperand Expression.indicatorOf Expression.connectOf Expression.compareOf
-    Expression.numberBy Expression.truthBy Expression.number Expression.truth Expression.holdsOf
-    State.endsOf Number.sizeOf Number.countOf Number.stateOf
-    Expression.behind Transition.assignmentAt Transition.assignmentsFrom Transition.inRangeOf Transition.allInRange Transition.assigned
-    Transition.guardOf Transition.assignmentList Transition.enabledOf Transition.successorOf
-    Search.firstFailingFrom Search.firstFailing
-    Diagram.startHolds Diagram.nodeAt Diagram.nodeHolds Diagram.claimedAt Diagram.pHolds Diagram.qAt Diagram.qHolds Edges.carries Edges.isDouble
+-- ---- what antt computes
+-- `unfolding reporting` unfolds all that stands here
+unfoldable pub reporting : Unit {0}
+unfolding computing Number.countOf Number.stateOf
+    Search.firstFailingFrom Search.firstFailing Edges.carries Edges.isDouble
     Condition.each Condition.movesOf Condition.conditionsFrom Condition.conditionsOf Condition.totalOf Condition.conditionAt
     Condition.refusalNumber Condition.nodeNumber Condition.transitionNumber
-    Truth.implies Holding.guardHolds Holding.valuesFit Holding.isEnabled Holding.nextState
-    Holding.someNode Holding.someTarget Holding.conditionHolds
+    Truth.implies Holding.isEnabled Holding.someNode Holding.someTarget Holding.conditionHolds
     Verdict.stateCount Verdict.stateAt Verdict.unnamedOf Verdict.namedOf Verdict.breakingOf Verdict.isTrue Verdict.brokenOf Verdict.judgedOf
     Verdict.verdictBy Verdict.checkOf Verdict.singleJudged Verdict.singleBy Verdict.singleOf
     Report.valueBytes Report.reportBytes Report.reportOf
-columns = (
-  refl,
-  refl,
-  refl,
-  record {
-    B-counts = record {
-      readable = refl;
-      accepted = refl;
-      transitions = refl;
-      states = (refl, refl, refl, refl);
-      zero-on = (refl, refl);
-      one-on = (refl, refl);
-      two-off = refl;
-    };
-    B-starts = refl;
-    D-counts = record {
-      readable = refl;
-      accepted = refl;
-      transitions = refl;
-      states = (refl, refl, refl, refl);
-      zero-on = (refl, refl);
-      one-on = (refl, refl);
-      two-off = refl;
-    };
-    D-premise = refl;
-    D-just = refl;
-    D-before₀ = refl;
-    D-before₁ = refl;
-    D-after = refl;
-    H-counts = record {
-      readable = refl;
-      accepted = refl;
-      transitions = refl;
-      states = (refl, refl, refl, refl);
-      zero-on = (refl, refl);
-      one-on = (refl, refl);
-      two-off = refl;
-    };
-    H-premise = refl;
-    H-before₀ = refl;
-    H-before₁ = refl;
-  },
-)
+reporting = tt
+
+-- the columns of each table
+columns : (map (λ (row : Row). checked (row .0)) table ≡ map reported table)
+    × (map (λ (row : Listing). listedBy (row .0)) lists ≡ map (λ (row : Listing). row .1) lists)
+    × (map (λ (row : Question × Single). answered (row .0)) singles ≡ map (λ (row : Question × Single). row .1) singles)
+unfolding reporting
+columns = (refl, refl, refl)
 
 -- ---- the theorems
 pub examples : (row : Row) → List·Memᴰ row table → checked (row .0) ≡ reported row
@@ -225,7 +150,3 @@ lists-hold = agree (λ row. listedBy (row .0)) (λ row. row .1) (columns .1)
 
 pub singles-hold : (row : Question × Single) → List·Memᴰ row singles → answered (row .0) ≡ row .1
 singles-hold = agree (λ row. answered (row .0)) (λ row. row .1) (columns .2)
-
--- what proofs/Witness.antt needs of B, D and H
-pub computed : Computed
-computed = columns .3

@@ -2,28 +2,29 @@
 -- which starts, idles and moves.
 --     invariance-met     B: a finite run from a starting state
 --     wait-for-met       H: an endless run from a state where p holds, and q_0 does not hold at the four positions from there on
---     chain-met          D: an endless run, 2-just and just, from a state where p holds; q holds 2 × 2 steps on, and not before
+--     chain-met          D, whose step is just: an endless run, 2-just and just, from a state where p holds; q holds 2 × 2 steps on, and not before
 -- Assumes nothing.
-use mathlib.Core.Path.{_≡_, refl, sym, subst}
+use mathlib.Core.Path.{_≡_, refl}
 use mathlib.Core.Logic.{inl, inr}
-use mathlib.Core.Bool.{Bool, false, not}
+use mathlib.Core.Bool.{not}
 use mathlib.Core.List.{List, [], _∷_}
 use Prim.Native.Nat.{ℕ, zero, suc, _+_, _<_, _≤_}
 use native.Mathlib.Nat.{add-zero}
 use native.Mathlib.Omega.{arith}
-use lib.Dec.{T}
+use lib.Dec.{T, lit≤}
 use lib.IntN.{ℤ}
 use Rattle.parsing.specs.declared.Outline.{Outline}
+use Rattle.reading.specs.declared.Reading.{Reading}
+use Rattle.reading.specs.Read.{readOf}
 use Rattle.states.specs.State.{State}
-use Rattle.evaluating.proofs.Laws.Readable as readable
 use Rattle.testing.specs.Diagram.{startHolds, pHolds, qHolds}
-use Rattle.verdicts.specs.Verdict.{stateCount, stateAt, checkOf}
+use Rattle.verdicts.specs.Verdict.{checkOf}
 use Rattle.runs.specs.Run.{Run, finite, endless, Position, at, Next, IsRun, DisabledOrTaken, Just, KJust}
 use Rattle.runs.specs.Claim.{Waiting}
 use Rattle.soundness.specs.System.{systemOf}
-use Rattle.truths.proofs.Laws.Truth.{so-true}
-use Rattle.judging.proofs.Counter.{v, Counter, b, oB, d, oD, h, oH}
-use Rattle.judging.proofs.Examples.{computed}
+use Rattle.soundness.proofs.Values.{v}
+use Rattle.judging.proofs.Counter.{Counter, b, oB, d, oD, h, oH, B-counts, D-counts, H-counts}
+use Rattle.judging.proofs.Examples.{reporting}
 
 -- ---- runs of the counter: 0 0 1 1 2, and then 2 for ever or to the end
 pub σ : ℕ → List ℤ
@@ -46,39 +47,23 @@ Moves r = (n : ℕ) × Position r (suc n) × (at r (suc n) ≡ at r n → ⊥)
 apart : v 1 ≡ v 0 → ⊥
 apart e = let z : _≡_ {A = ℕ} 1 0 = cc in absurd (omega arith)
 
-not-of : {b : Bool} → b ≡ false → T (not b)
-not-of {b} e = subst (λ (x : Bool). T (not x)) (sym e) tt
-
 module _ (file : List ℕ) (o : Outline) (c : Counter file o) where
-  is-state : (n : ℕ) → n < 3 → (s : List ℤ) → stateAt file o n ≡ s → State file (o .vars) s
-  unfolding stateAt stateCount
-  is-state n l s e = subst (State file (o .vars)) e (readable.numbered file o (c .readable) n (rw (c .states .0) l) .0)
-
-  zero-state : State file (o .vars) (v 0)
-  zero-state = is-state 0 (omega arith) (v 0) (c .states .1)
-
-  one-state : State file (o .vars) (v 1)
-  one-state = is-state 1 (omega arith) (v 1) (c .states .2)
-
-  two-state : State file (o .vars) (v 2)
-  two-state = is-state 2 (omega arith) (v 2) (c .states .3)
-
   first-move : Next (systemOf file o) (v 0) (v 1)
-  first-move = inr (0, rw (c .transitions) (omega arith), (so-true _ (c .zero-on .0), c .zero-on .1))
+  first-move = inr (0, rw (c .transitions) (omega arith), c .zero-on)
 
   second-move : Next (systemOf file o) (v 1) (v 2)
-  second-move = inr (0, rw (c .transitions) (omega arith), (so-true _ (c .one-on .0), c .one-on .1))
+  second-move = inr (0, rw (c .transitions) (omega arith), c .one-on)
 
   σ-run : IsRun (systemOf file o) (endless σ)
   unfolding σ
   σ-run = record { states = states; steps = steps }
     where
       states : (n : ℕ) → Position (endless σ) n → State file (o .vars) (σ n)
-      states zero p = zero-state
-      states (suc zero) p = zero-state
-      states (suc (suc zero)) p = one-state
-      states (suc (suc (suc zero))) p = one-state
-      states (suc (suc (suc (suc n)))) p = two-state
+      states zero p = c .states (lit≤ tt)
+      states (suc zero) p = c .states (lit≤ tt)
+      states (suc (suc zero)) p = c .states (lit≤ tt)
+      states (suc (suc (suc zero))) p = c .states (lit≤ tt)
+      states (suc (suc (suc (suc n)))) p = c .states (lit≤ tt)
 
       steps : (n : ℕ) → Position (endless σ) (suc n) → Next (systemOf file o) (σ n) (σ (suc n))
       steps zero p = inl refl
@@ -91,11 +76,11 @@ module _ (file : List ℕ) (o : Outline) (c : Counter file o) where
   listed-run = record { states = states; steps = steps }
     where
       states : (n : ℕ) → Position listed n → State file (o .vars) (at listed n)
-      states zero p = zero-state
-      states (suc zero) p = zero-state
-      states (suc (suc zero)) p = one-state
-      states (suc (suc (suc zero))) p = one-state
-      states (suc (suc (suc (suc zero)))) p = two-state
+      states zero p = c .states (lit≤ tt)
+      states (suc zero) p = c .states (lit≤ tt)
+      states (suc (suc zero)) p = c .states (lit≤ tt)
+      states (suc (suc (suc zero))) p = c .states (lit≤ tt)
+      states (suc (suc (suc (suc zero)))) p = c .states (lit≤ tt)
       states (suc (suc (suc (suc (suc n))))) p = absurd (omega arith)
 
       steps : (n : ℕ) → Position listed (suc n) → Next (systemOf file o) (at listed n) (at listed (suc n))
@@ -108,55 +93,54 @@ module _ (file : List ℕ) (o : Outline) (c : Counter file o) where
   -- among any two positions in a row the step is somewhere disabled or taken
   taken : (t : ℕ) → t < 1 → (n : ℕ) → (j : ℕ) × (j < 2) × DisabledOrTaken (systemOf file o) t σ (n + j)
   unfolding σ
-  taken zero l zero = (1, omega arith, inr (so-true _ (c .zero-on .0), c .zero-on .1))
-  taken zero l (suc zero) = (0, omega arith, inr (so-true _ (c .zero-on .0), c .zero-on .1))
-  taken zero l (suc (suc zero)) = (1, omega arith, inr (so-true _ (c .one-on .0), c .one-on .1))
-  taken zero l (suc (suc (suc zero))) = (0, omega arith, inr (so-true _ (c .one-on .0), c .one-on .1))
-  taken zero l (suc (suc (suc (suc n)))) = (0, omega arith, rw (add-zero (suc (suc (suc (suc n))))) (inl (not-of (c .two-off))))
+  taken zero l zero = (1, omega arith, inr (c .zero-on))
+  taken zero l (suc zero) = (0, omega arith, inr (c .zero-on))
+  taken zero l (suc (suc zero)) = (1, omega arith, inr (c .one-on))
+  taken zero l (suc (suc (suc zero))) = (0, omega arith, inr (c .one-on))
+  taken zero l (suc (suc (suc (suc n)))) = (0, omega arith, rw (add-zero (suc (suc (suc (suc n))))) (inl (c .two-off)))
   taken (suc t) l n = absurd (omega arith)
 
 -- ---- the theorems
-pub invariance-met : (checkOf b 32 .number ≡ 0) × IsRun (systemOf b oB) listed × T (startHolds b oB (at listed 0)) × Idles listed × Moves listed
-invariance-met =
-    let c = computed .B-counts in
-    (c .accepted, listed-run b oB c, so-true _ (computed .B-starts), (0, omega arith, refl), (1, omega arith, apart))
+-- the file is accepted, and has this outline
+abbrev Accepted : List ℕ → Outline → Type 0
+Accepted file o = (readOf file ≡ Reading.Readable o) × (checkOf file 32 .number ≡ 0)
 
-pub wait-for-met : (checkOf h 32 .number ≡ 0) × IsRun (systemOf h oH) (endless σ) × T (pHolds h oH (σ 0)) × Waiting (qHolds h oH 0) (endless σ) 0 3
+pub invariance-met : Accepted b oB × IsRun (systemOf b oB) listed × T (startHolds b oB (at listed 0)) × Idles listed × Moves listed
+unfolding reporting
+invariance-met = ((refl, refl), listed-run b oB B-counts, tt, (0, omega arith, refl), (1, omega arith, apart))
+
+pub wait-for-met : Accepted h oH × IsRun (systemOf h oH) (endless σ) × T (pHolds h oH (σ 0)) × Waiting (qHolds h oH 0) (endless σ) 0 3
     × Idles (endless σ) × Moves (endless σ)
-unfolding σ
+unfolding σ reporting
 wait-for-met =
-    let c = computed .H-counts in
-    (c .accepted, σ-run h oH c, so-true _ (computed .H-premise), waiting, (0, tt, refl), (1, tt, apart))
+    ((refl, refl), σ-run h oH H-counts, tt, record { from = omega arith; position = tt; unmet = unmet }, (0, tt, refl), (1, tt, apart))
   where
     unmet : (j : ℕ) → 0 ≤ j → j ≤ 3 → T (not (qHolds h oH 0 (σ j)))
-    unmet zero a l = not-of (computed .H-before₀)
-    unmet (suc zero) a l = not-of (computed .H-before₀)
-    unmet (suc (suc zero)) a l = not-of (computed .H-before₁)
-    unmet (suc (suc (suc zero))) a l = not-of (computed .H-before₁)
+    unmet zero a l = tt
+    unmet (suc zero) a l = tt
+    unmet (suc (suc zero)) a l = tt
+    unmet (suc (suc (suc zero))) a l = tt
     unmet (suc (suc (suc (suc j)))) a l = absurd (omega arith)
 
-    waiting : Waiting (qHolds h oH 0) (endless σ) 0 3
-    waiting = record { from = omega arith; position = tt; unmet = unmet }
-
-pub chain-met : (checkOf d 32 .number ≡ 0) × IsRun (systemOf d oD) (endless σ) × KJust (systemOf d oD) 2 σ × Just (systemOf d oD) σ
+pub chain-met : Accepted d oD × IsRun (systemOf d oD) (endless σ) × T (systemOf d oD .just 0) × KJust (systemOf d oD) 2 σ × Just (systemOf d oD) σ
     × T (pHolds d oD (σ 0)) × Idles (endless σ) × Moves (endless σ) × ((j : ℕ) → j < 4 → T (not (qHolds d oD 0 (σ j)))) × T (qHolds d oD 0 (σ 4))
-unfolding σ
-chain-met =
-    let c = computed .D-counts in (
-      c .accepted,
-      σ-run d oD c,
-      (λ t l j n. taken d oD c t l n),
-      (λ t l j n. let x = taken d oD c t l n in (x .0, x .2)),
-      so-true _ (computed .D-premise),
-      (0, tt, refl),
-      (1, tt, apart),
-      unmet,
-      so-true _ (computed .D-after),
-    )
+unfolding σ reporting
+chain-met = (
+  (refl, refl),
+  σ-run d oD D-counts,
+  tt,
+  (λ t l j n. taken d oD D-counts t l n),
+  (λ t l j n. let x = taken d oD D-counts t l n in (x .0, x .2)),
+  tt,
+  (0, tt, refl),
+  (1, tt, apart),
+  unmet,
+  tt,
+)
   where
     unmet : (j : ℕ) → j < 4 → T (not (qHolds d oD 0 (σ j)))
-    unmet zero l = not-of (computed .D-before₀)
-    unmet (suc zero) l = not-of (computed .D-before₀)
-    unmet (suc (suc zero)) l = not-of (computed .D-before₁)
-    unmet (suc (suc (suc zero))) l = not-of (computed .D-before₁)
+    unmet zero l = tt
+    unmet (suc zero) l = tt
+    unmet (suc (suc zero)) l = tt
+    unmet (suc (suc (suc zero))) l = tt
     unmet (suc (suc (suc (suc j)))) l = absurd (omega arith)

@@ -25,7 +25,8 @@ unfoldable pub edgesParsed : List ℕ → ℕ → ℕ → ℕ → ℕ → ℕ �
 edgesParsed file vars transition transitions property node nodes edge =
     andSection (edgesOf file transitions nodes edge) λ edges end.
     cond (eqb end (length file / 8))
-    (Parsed.Whole (record { vars = vars; transition = transition; transitions = transitions; property = property; node = node; nodes = nodes; edge = edge; edges = edges }))
+    (Parsed.Whole
+    (record { vars = vars; transition = transition; transitions = transitions; property = property; node = node; nodes = nodes; edge = edge; edges = edges }))
     (Parsed.Refused 3 end)
 
 -- the nodes, from `node` on: "too few nodes is 3"

@@ -1,10 +1,9 @@
--- What every refusal of reading is: a number from 2 to 10, with its place.
+-- What every refusal of reading is: a number of 2 or more, so never that of a yes (0) or of a short buffer (1), with its place.
 use mathlib.Core.Path.{_≡_}
 use Prim.Native.Nat.{ℕ, _≤_}
 
 pub record Refusal (most number place : ℕ) : Type 0 where
   pub from : 2 ≤ number
-  pub to : number ≤ 10
   pub within : place ≤ most
 
 -- an answer, if it is a refusal, is such a one; `refuse` makes the refusals of its type

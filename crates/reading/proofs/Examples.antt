@@ -15,12 +15,14 @@ use Rattle.sections.specs.Section
 use Rattle.parsing.specs.Outline
 use Rattle.reading.specs.declared.Reading.{Reading}
 use Rattle.truths.specs.Search
+use Rattle.states.specs.Number
 use Rattle.reading.specs.States
 use Rattle.intervals.specs.Interval
 use Rattle.reading.specs.Edge
 use Rattle.reading.specs.Read
 use Rattle.reading.specs.Read.{readOf}
-use Rattle.reading.proofs.Files.{bytes, given, entry, range, start, transition, property, node, single, double, constant, plain, true, not, product, A, B, C, nodes, D, E, F, G, H, I, J, agree}
+use Rattle.reading.proofs.Files.{bytes, given, entry, range, start, transition, property, node, nodes, single, double}
+use Rattle.reading.proofs.Files.{constant, plain, true, not, product, A, B, C, D, E, F, G, H, I, J, agree}
 
 -- ---- small files
 -- start, q and one node, all true, behind these variables
@@ -148,7 +150,7 @@ unfolding flatten Bytes.signed16 Ends.minZ Ends.maxZ Ends.around Ends.overEnds E
     Section.variablesOf Section.assignmentsOf Section.transitionOf Section.transitionsOf Section.expressionsOf Section.phasesOr
     Section.nodesOf Section.repeatedOf Section.edgesOf
     Outline.edgesParsed Outline.nodesParsed Outline.propertyParsed Outline.transitionsParsed Outline.startParsed Outline.parsedOf
-    Search.any Walk.refuseFirst States.sizeAt States.statesOf
+    Search.any Walk.refuseFirst Number.sizeOf States.sizeAt States.statesOf
     Interval.leafOf Interval.combine Interval.joinOf Interval.ownOf Interval.byOperands Interval.analysisOf Interval.analysedFrom Interval.intervalsOf
     Edge.descending Edge.transitionAt Edge.justOf Edge.conflictOf Edge.chainRuleOf Edge.ruleOf Edge.rulesOf Edge.doubleFrom Edge.doubledOf Edge.doublesOf
     Read.stagesRead Read.parsedRead Read.readOf

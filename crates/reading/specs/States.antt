@@ -5,20 +5,15 @@ use mathlib.Core.List.{List}
 use lib.ListN.{length}
 use lib.Dec.{leb}
 use lib.Signed.{_≤ℤ_}
-use Rattle.integers.specs.Radix.{offsetOf}
 use Rattle.records.specs.declared.walk.Walked.{Walked}
 use Rattle.records.specs.Record.{valueB, valueC}
+use Rattle.states.specs.Number.{sizeOf}
 
 -- how many values the variable at record `at` has: those of its range b..c
 unfoldable pub sizeAt : List ℕ → ℕ → ℕ
-sizeAt file at = offsetOf (valueB file at) (valueC file at) + 1
+sizeAt file at = sizeOf (valueB file at) (valueC file at)
 
--- the product of the sizes of the n variables from `at` on
-unfoldable pub productOf : List ℕ → ℕ → ℕ → ℕ
-productOf file zero at = 1
-productOf file (suc n) at = sizeAt file at * productOf file n (at + 1)
-
--- the same, built up by variable: `product` times the sizes of the `left` variables from `at` on
+-- the product, built up by variable: `product` times the sizes of the `left` variables from `at` on
 unfoldable pub statesOf : List ℕ → ℕ → ℕ → ℕ → Walked
 statesOf file zero at product = Walked.End product
 statesOf file (suc left) at product =

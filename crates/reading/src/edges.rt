@@ -10,7 +10,8 @@ ghost use lib.ListN.{length};
 ghost use Rattle.sections.specs.Section.{transitionOf};
 ghost use Rattle.records.specs.Place.{placesOf};
 ghost use Rattle.truths.specs.Search.{any};
-ghost use Rattle.reading.specs.Edge.{descending, conflictOf, justOf, chainRuleOf, ruleOf, rulesOf, doubleFrom, doubledOf, doublesOf, OutlineFits, EdgeFits};
+ghost use Rattle.reading.specs.Edge.{descending, conflictOf, justOf, chainRuleOf, ruleOf, rulesOf, doubleFrom, doubledOf, doublesOf};
+ghost use Rattle.reading.specs.Edge.{OutlineFits, EdgeFits};
 
 // Whether two edges conflict: from one node, either of one transition, single and double, or both double.
 fn conflict(file: &[u8], i: usize, j: usize) -> bool

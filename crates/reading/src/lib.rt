@@ -8,7 +8,7 @@ ghost use Rattle.reading.specs.Edge.{OutlineFits};
 ghost use Rattle.reading.specs.Read.{stagesRead, readOf};
 
 pub mod edges;
-pub mod states;
+pub mod product;
 
 // The outline of a readable file, or the refusal that meets it, with its number and its place.
 pub enum Reading {
@@ -21,7 +21,7 @@ fn read_parsed(file: &[u8], outline: Outline) -> Reading
     requires { ⌜ OutlineFits (now file) outline ⌝ }
     ensures { λ r. ⌜ r ≡ stagesRead (now (file .entry)) outline ⌝ }
 {
-    let states = states::states(file, outline.vars);
+    let states = product::states(file, outline.vars);
     if let Walked::Refused(number, place) = states {
         return Reading::Refused(number, place);
     }

@@ -100,9 +100,10 @@ nodesOf file vars most at = itemsOf file 0x06 (noFields file) (nodeOf file vars)
 unfoldable pub repeatedOf : List ℕ → ℕ → ℕ → ℕ → Bool
 repeatedOf file at first n = any (λ e. sameBytes file (8 * e + 1) (8 * at + 1) 5) n first
 
--- "0 to 512"; `first` is the first edge's record
+-- an edge repeats none of those before it; `first` is the first edge's record
+abbrev pub edgeOf : List ℕ → ℕ → ℕ → Walked
+edgeOf file first at = cond (repeatedOf file at first (at - first)) (Walked.Refused 6 at) (Walked.End (at + 1))
+
+-- "0 to 512"
 unfoldable pub edgesOf : List ℕ → ℕ → ℕ → ℕ → Section
-edgesOf file transitions nodes first =
-    itemsOf file 0x07 (edgeFields file transitions nodes)
-    (λ at. cond (repeatedOf file at first (at - first)) (Walked.Refused 6 at) (Walked.End (at + 1)))
-    512 0 first
+edgesOf file transitions nodes first = itemsOf file 0x07 (edgeFields file transitions nodes) (edgeOf file first) 512 0 first

@@ -12,7 +12,9 @@ ghost use mathlib.Core.Path.{_≡_};
 ghost use Prim.Native.Nat.{_+_, _*_, _/_, _≤_, _<_};
 ghost use lib.ListN.{length, replicate};
 ghost use Rattle.records.specs.Place.{placesOf};
-ghost use Rattle.sections.specs.Section.{variableFields, transitionFields, assignmentFields, propertyFields, edgeFields, variablesOf, assignmentsOf, transitionOf, transitionsOf, expressionsOf, phasesOr, nodeOf, nodesOf, repeatedOf, edgesOf};
+ghost use Rattle.sections.specs.Section.{variableFields, transitionFields, assignmentFields, propertyFields, edgeFields};
+ghost use Rattle.sections.specs.Section.{variablesOf, assignmentsOf, transitionOf, transitionsOf};
+ghost use Rattle.sections.specs.Section.{expressionsOf, phasesOr, nodeOf, nodesOf, repeatedOf, edgesOf};
 
 // Where a section ends: how many items it has and the record behind it, or refused, with the number and the record.
 pub enum Section {

@@ -33,11 +33,9 @@ pub record Claimed (file : List ℕ) (o : Outline) : Type 0 where
   pub invariance : diagram file o ≡ 1
       → Invariance (systemOf file o) (qHolds file o 0) × InRange (systemOf file o) 0 (o .nodes) (nodeHolds file o)
   pub wait-for : diagram file o ≡ 2
-      → WaitFor (systemOf file o) (pHolds file o) (fieldB file (o .property) - 1) (qHolds file o)
-      × InRange (systemOf file o) 1 (o .nodes) (nodeHolds file o)
+      → WaitFor (systemOf file o) (pHolds file o) (fieldB file (o .property) - 1) (qHolds file o) × InRange (systemOf file o) 1 (o .nodes) (nodeHolds file o)
   pub chain : diagram file o ≡ 3
-      → Chain (systemOf file o) (o .nodes) (nodeHolds file o) (pHolds file o) (qHolds file o 0)
-      × InRange (systemOf file o) 1 (o .nodes) (nodeHolds file o)
+      → Chain (systemOf file o) (o .nodes) (nodeHolds file o) (pHolds file o) (qHolds file o 0) × InRange (systemOf file o) 1 (o .nodes) (nodeHolds file o)
 
 -- the claim of a file: it is readable, and what it claims is true
 pub record Claim (file : List ℕ) : Type 0 where

@@ -39,7 +39,7 @@ pub fn highs(file: &[u8], vars: usize) -> [i16; 12]
 }
 
 // How many values a range has.
-fn size(low: i16, high: i16) -> usize
+pub fn size(low: i16, high: i16) -> usize
     requires { ⌜ low ≤ℤ high ⌝ }
     ensures { λ r. ⌜ (r ≡ sizeOf low high) × (r ≤ 65536) ⌝ }
 {

@@ -1,8 +1,8 @@
 -- What is known of a readable file and of its states: the page that judging cites. Each law follows from the answer of `read` alone.
 --     ranges                                       no range is empty
---     states, states-within                        there are as many states as reading counts, at least 1 and at most 1,048,576
+--     states-within                                there are at least 1 and at most 1,048,576 states
 --     numbered, number                             each number below that has a state, and each state such a number: they determine each other
---     state-zero, next                                   the first state, and the move forward from any but the last to the one numbered one higher
+--     state-zero, next                             the first state, and the move forward from any but the last to the one numbered one higher
 --     start-fits, claimed-fits, assertion-fits     in every state the start, each expression of the property and each node's assertion can be evaluated
 --     transition-fits                              so can each transition's guard and assigned values
 --     assignments-all, assignments-once            its assignments are all that reading found, to no variable twice
@@ -24,7 +24,6 @@ use Rattle.sections.specs.Section.{expressionsOf}
 use Rattle.sections.proofs.Laws.Section.{kind-here}
 use Rattle.reading.specs.declared.Reading.{Reading}
 use Rattle.intervals.specs.Interval.{interval}
-use Rattle.reading.specs.States.{productOf}
 use Rattle.reading.specs.Read.{readOf}
 use Rattle.intervals.specs.Expression.{Expression}
 use Rattle.reading.specs.Readable.{Apart, Assignments}
@@ -34,10 +33,10 @@ use Rattle.expressions.specs.Expression.{partAt, Fits}
 use Rattle.states.specs.State.{lowsOf, highsOf, Ranges, State}
 use Rattle.states.specs.Number.{countOf, stateOf, numberOf, advanceOf}
 use Rattle.expressions.specs.Expression.{behind}
-use Rattle.evaluating.specs.Transition.{assignmentAt, assignmentsFrom, allInRange, guardOf, assignmentList, enabledOf, successorOf, AssignmentsFit, TransitionFits}
+use Rattle.evaluating.specs.Transition.{assignmentAt, assignmentsFrom, allInRange, guardOf, assignmentList, enabledOf, successorOf}
+use Rattle.evaluating.specs.Transition.{AssignmentsFit, TransitionFits}
 use Rattle.expressions.proofs.Laws.Sound.{expression-fits}
 use Rattle.states.proofs.Laws.State.{ends-at, ranges-file, within-at}
-use Rattle.evaluating.proofs.Laws.Count.{count-file}
 use Rattle.states.proofs.Laws.Number.{number-below, state-of-number, number-of-state, state-within, first-state, advance-next}
 use Rattle.evaluating.proofs.Laws.Transition.{variables, Unassigned, Once, assigned-within}
 
@@ -48,7 +47,8 @@ module _ (file : List ℕ) (vars end : ℕ) where
   unfolding behind
   behind-is {want} {at} {mid} x = sym (expression-span file vars want at mid x)
 
-  assignments-fit : (state : List ℤ) → vars ≤ 12 → ((at mid : ℕ) (i : Interval) → Expression file vars 16 numberSort at mid i → Fits 16 numberSort (partAt file at) state)
+  assignments-fit : (state : List ℤ) → vars ≤ 12
+      → ((at mid : ℕ) (i : Interval) → Expression file vars 16 numberSort at mid i → Fits 16 numberSort (partAt file at) state)
       → (n at : ℕ) {vs : List ℕ} → Assignments file vars end at vs → AssignmentsFit file n at state
   unfolding AssignmentsFit
   assignments-fit state most fits zero at h = tt
@@ -93,11 +93,8 @@ module _ (file : List ℕ) (o : Outline) (r : readOf file ≡ Reading.Readable o
   pub ranges : Ranges lows highs
   ranges = ranges-file file (o .vars) most (readable.variable-range file o r)
 
-  pub states : countOf lows highs ≡ productOf file (o .vars) 0
-  states = count-file file (o .vars) most
-
   pub states-within : (1 ≤ countOf lows highs) × (countOf lows highs ≤ 1048576)
-  states-within = rw states (readable.states-within file o r)
+  states-within = readable.states-within file o r
 
   pub numbered : (n : ℕ) → n < countOf lows highs → State file (o .vars) (stateOf lows highs n) × (numberOf lows highs (stateOf lows highs n) ≡ n)
   numbered n l = (state-within ranges n l, number-of-state ranges n l)
@@ -134,10 +131,8 @@ module _ (file : List ℕ) (o : Outline) (r : readOf file ≡ Reading.Readable o
     pub transition-fits : (t : ℕ) (l : t < o .transitions) → TransitionFits file (readable.transition file o r t l .place) state
     transition-fits t l =
         let x = readable.transition file o r t l in
-        record {
-          guard = fits _ _ _ _ (x .guard);
-          assignments = rw (behind-is file (o .vars) (x .end) (x .guard)) (assignments-fit file (o .vars) (x .end) state most (fits numberSort) (length file / 8) (x .behind) (x .assignments));
-        }
+        let values = assignments-fit file (o .vars) (x .end) state most (fits numberSort) (length file / 8) (x .behind) (x .assignments) in
+        record { guard = fits _ _ _ _ (x .guard); assignments = rw (behind-is file (o .vars) (x .end) (x .guard)) values }
 
     -- ---- the assignments: all that reading found, to no variable twice
     module _ (t : ℕ) (l : t < o .transitions) where

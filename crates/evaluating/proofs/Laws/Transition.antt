@@ -22,7 +22,8 @@ module _ (lows highs : List ℤ) where
   unfolding inRangeOf
   in-range-ends i x e = let b = and-eq-true-iff (leZ (getD lows i (pos 0)) x) (leZ x (getD highs i (pos 0))) .0 e in (omega ints, omega ints)
 
-  pub assigned-within : (list : List Assignment) (state : List ℤ) → Within lows highs state → allInRange lows highs list ≡ true → Within lows highs (assigned list state)
+  pub assigned-within : (list : List Assignment) (state : List ℤ) → Within lows highs state → allInRange lows highs list ≡ true
+      → Within lows highs (assigned list state)
   unfolding allInRange assigned
   assigned-within [] state w e = w
   assigned-within (a ∷ rest) state w e =
@@ -56,7 +57,8 @@ assigned-rest v [] state u = refl
 assigned-rest v (a ∷ rest) state u =
     assigned-rest v rest (set state (a .variable) (a .value)) (u .1) ∙ getD-set-other state (a .variable) v (a .value) (pos 0) (u .0)
 
-pub assigned-value : (v : ℕ) (x : ℤ) (list : List Assignment) (state : List ℤ) → v < length state → Once list → Assigns v x list → getD (assigned list state) v (pos 0) ≡ x
+pub assigned-value : (v : ℕ) (x : ℤ) (list : List Assignment) (state : List ℤ) → v < length state → Once list → Assigns v x list
+    → getD (assigned list state) v (pos 0) ≡ x
 unfolding assigned
 assigned-value v x (a ∷ rest) state l o (Assigns.here p q) =
     assigned-rest v rest (set state (a .variable) (a .value)) (subst (λ (w : ℕ). Unassigned w rest) p (o .0))

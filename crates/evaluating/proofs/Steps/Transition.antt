@@ -12,7 +12,8 @@ use Rattle.evaluating.specs.declared.Assignment.{Assignment}
 use Rattle.evaluating.specs.declared.Assigned.{Assigned}
 use Rattle.evaluating.specs.declared.Stepped.{Stepped}
 use Rattle.expressions.specs.Expression.{behind}
-use Rattle.evaluating.specs.Transition.{assignmentAt, assignmentsFrom, inRangeOf, allInRange, assigned, guardOf, assignmentList, enabledOf, successorOf, assignOf, stepOf, AssignmentsFit}
+use Rattle.evaluating.specs.Transition.{assignmentAt, assignmentsFrom, inRangeOf, allInRange, assigned, guardOf, assignmentList, enabledOf}
+use Rattle.evaluating.specs.Transition.{successorOf, assignOf, stepOf, AssignmentsFit}
 
 -- ---- the assignments from a record on
 module _ (file : List ℕ) (at : ℕ) (state : List ℤ) where

@@ -1,12 +1,15 @@
--- `evaluating::assign` meets its contract: what is left to do to `next` gives what all the assignments do to `state`.
+-- `evaluating::assign`: what is left to do to `next` gives what all the assignments do to `state` (`Left`). The measure is the assignments left.
 -- Assumes nothing.
 use borrow.Author.Tests.{not-true, not-false}
-use mathlib.Core.Path.{sym, _∙_}
-use Prim.Native.Nat.{_-_, _/_, _<_}
+use mathlib.Core.Path.{_≡_, sym, _∙_}
+use mathlib.Core.Bool.{true}
+use Prim.Native.Nat.{suc, _-_, _/_, _<_}
 use native.Mathlib.Omega.{arith}
+use denote.Ref.{now}
 use lib.ListN.{length}
 use mir.Syntax.{w64}
 use Rattle.integers.proofs.Laws.Parts.{back}
+use Rattle.records.specs.Record.{kindIs}
 use Rattle.evaluating.specs.Transition.{assignmentsFrom}
 use Rattle.evaluating.proofs.Steps.Transition.{fits-more, Left, left-begins, left-none, left-end, left-variable, left-out, left-more}
 use Rattle.evaluating.proofs.assign.Statement.{statement}
@@ -28,29 +31,32 @@ kind-is-requires c κs = tt
 returns : tie.Need-returns Inv-loop μ-loop
 returns c = left-none _ _ _ _ _ (c .before .before .before .loop .inv) (sym (c .before .kind-is .ensures) ∙ not-true _ (c .if1 .taken))
 
+-- an assignment stands at the record that the turn is about: it is the first of those left
+module _ (c : tie.Else1 Inv-loop μ-loop) where
+  left-some : c .before .before .before .loop .left ≡ suc (c .before .before .before .loop .left - 1)
+  left-some = omega (arith, c .before .before .loop-test .taken)
+
+  named : kindIs (now (c .before .before .before .before .before .args .file)) 0x04 (c .before .before .before .loop .at) ≡ true
+  named = sym (c .before .kind-is .ensures) ∙ not-false _ (c .if1 .left)
+
 assignment-at-requires : tie.Need-assignment-at-requires Inv-loop μ-loop
-assignment-at-requires c κs = (
-  fits-more _ _ _ {n = c .before .before .before .loop .left - 1} (omega (arith, c .before .before .loop-test .taken))
-      (sym (c .before .kind-is .ensures) ∙ not-false _ (c .if1 .left)) (c .before .before .before .loop .inv .fit) .1,
-  c .before .before .before .before .before .pre .0,
-)
+assignment-at-requires c κs =
+    (fits-more _ _ _ (left-some c) (named c) (c .before .before .before .loop .inv .fit) .1, c .before .before .before .before .before .pre .0)
 
 -- the variable is one of twelve
 variable : (a : tie.After-assignment-at Inv-loop μ-loop) → a .assignment-at .result .variable < 12
-variable a = left-variable _ _ _ _ _ (a .before .before .before .before .loop .inv) (a .before .before .before .before .loop .left - 1)
-    (omega (arith, a .before .before .before .loop-test .taken)) (sym (a .before .before .kind-is .ensures) ∙ not-false _ (a .before .if1 .left))
-    (a .assignment-at .ensures)
+variable a =
+    left-variable _ _ _ _ _ (a .before .before .before .before .loop .inv) _ (left-some (a .before)) (named (a .before)) (a .assignment-at .ensures)
 
 in-range-requires : tie.Need-in-range-requires Inv-loop μ-loop
 in-range-requires c κs = variable (c .before)
 
 returns-2 : tie.Need-returns-2 Inv-loop μ-loop
-returns-2 c = let a = c .before .before .before in
-    left-out _ _ _ _ _ (a .before .before .before .before .loop .inv) (a .before .before .before .before .loop .left - 1)
-    (omega (arith, a .before .before .before .loop-test .taken)) (sym (a .before .before .kind-is .ensures) ∙ not-false _ (a .before .if1 .left))
-    (a .assignment-at .ensures)
-    (rw (back w64 (a .assignment-at .result .value) (c .before .before .struct-told .given .1 .0 .1)) at
-    (sym (c .before .in-range .ensures) ∙ not-true _ (c .if2 .taken)))
+returns-2 c =
+    let a = c .before .before .before in
+    let held = back w64 (a .assignment-at .result .value) (c .before .before .struct-told .given .1 .0 .1) in
+    let out = rw held at (sym (c .before .in-range .ensures) ∙ not-true _ (c .if2 .taken)) in
+    left-out _ _ _ _ _ (a .before .before .before .before .loop .inv) _ (left-some (a .before)) (named (a .before)) (a .assignment-at .ensures) out
 
 with-requires : tie.Need-with-requires Inv-loop μ-loop
 with-requires c κs = (variable (c .before .before .before), sym (c .before .in-range .ensures) ∙ not-false _ (c .if2 .left))
@@ -62,12 +68,12 @@ loop-less : tie.Need-loop-less Inv-loop μ-loop
 loop-less c = omega arith
 
 loop-again : tie.Need-loop-again Inv-loop μ-loop
-loop-again c = let a = c .before .before .before .before in
-    let b = back w64 (a .assignment-at .result .value) (c .before .before .before .struct-told .given .1 .0 .1) in
-    rw (c .with .ensures, b)
-    (left-more _ _ _ _ _ (a .before .before .before .before .loop .inv) (a .before .before .before .before .loop .left - 1)
-    (omega (arith, a .before .before .before .loop-test .taken)) (sym (a .before .before .kind-is .ensures) ∙ not-false _ (a .before .if1 .left))
-    (a .assignment-at .ensures) (rw b at (sym (c .before .before .in-range .ensures) ∙ not-false _ (c .before .if2 .left))))
+loop-again c =
+    let a = c .before .before .before .before in
+    let held = back w64 (a .assignment-at .result .value) (c .before .before .before .struct-told .given .1 .0 .1) in
+    let inside = rw held at (sym (c .before .before .in-range .ensures) ∙ not-false _ (c .before .if2 .left)) in
+    rw (c .with .ensures, held)
+    (left-more _ _ _ _ _ (a .before .before .before .before .loop .inv) _ (left-some (a .before)) (named (a .before)) (a .assignment-at .ensures) inside)
 
 returns-3 : tie.Need-returns-3 Inv-loop μ-loop
 returns-3 c = left-end _ _ _ _ _ (c .before .loop .inv) (omega arith)

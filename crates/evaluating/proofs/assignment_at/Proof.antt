@@ -1,4 +1,4 @@
--- `evaluating::assignment_at` meets its contract. Assumes nothing.
+-- `evaluating::assignment_at`: the value's expression fits, so its records are there; the table of lengths says where it ends. Assumes nothing.
 use Prim.Native.Nat.{_+_, _*_, _≤_}
 use native.Mathlib.Omega.{arith}
 use lib.ListN.{length, getD}

@@ -1,4 +1,4 @@
--- `evaluating::in_range` meets its contract. Assumes nothing.
+-- `evaluating::in_range`: the ends and the value that the code compares are those of `inRangeOf`. Assumes nothing.
 use mathlib.Core.Path.{_∙_}
 use mir.Syntax.{w64}
 use Rattle.integers.proofs.Laws.Parts.{back}
@@ -18,8 +18,12 @@ between-requires c κs = search needs
 
 returns : tie.Need-returns
 unfolding inRangeOf
-returns c = c .between .ensures ∙ rw
-    (back w64 (c .before .before .element .result) (c .before .before .element .ok), back w64 (c .before .element2 .result) (c .before .element2 .ok), back w64 (c .before .before .before .args .x) (c .before .before .before .fits .x .sfits), c .before .before .element .ensures, c .before .element2 .ensures)
+returns c =
+    let start = c .before .before .before in
+    let low = c .before .before .element in
+    let high = c .before .element2 in
+    let x = back w64 (start .args .x) (start .fits .x .sfits) in
+    c .between .ensures ∙ rw (back w64 (low .result) (low .ok), back w64 (high .result) (high .ok), x, low .ensures, high .ensures)
 
 pub in-range-spec : {M : Type 1} → statement M
 in-range-spec = tie.close (tie.spec element-requires element-requires-2 between-requires returns)

@@ -1,4 +1,4 @@
--- `evaluating::step` meets its contract. Assumes nothing.
+-- `evaluating::step`: a guard that is false ends it; behind one that is true the assignments decide. Assumes nothing.
 use mathlib.Core.Path.{sym, _∙_}
 use Prim.Native.Nat.{_+_, _*_, _≤_}
 use native.Mathlib.Omega.{arith}

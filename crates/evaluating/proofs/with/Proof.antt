@@ -1,4 +1,4 @@
--- `evaluating::with` meets its contract. Assumes nothing.
+-- `evaluating::with`: a value in range lies between the ends as they are held. Assumes nothing.
 use lib.IntN.{pos}
 use lib.ListN.{getD}
 use mir.Syntax.{w16}

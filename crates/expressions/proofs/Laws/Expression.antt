@@ -12,10 +12,10 @@ use lib.ListN.{length, length-drop}
 use lib.IntN.{ℤ}
 use Rattle.integers.specs.Interval.{In, bounds}
 use Rattle.records.specs.declared.kinds.Form.{Form}
-use Rattle.records.specs.declared.kinds.Form.the-variants.{Constant, Variable, Arithmetic, Indicator, Literal, Negation, Connective, Comparison, Unfit}
 use Rattle.records.specs.Kind.{formAt, signatureOf, signatureAt}
 use Rattle.records.specs.Kind.{number as numberSort}
 use Rattle.records.specs.Walk.{spans, span}
+use Rattle.records.proofs.Laws.Kind.{operands-most}
 use Rattle.expressions.specs.Expression.{partAt, firstOperand, secondOperand, numberBy, truthBy, number, truth, RecordFits, OperandsFit, Fits}
 
 -- ---- opened
@@ -53,25 +53,14 @@ fits-small zero part state h = absurd h
 fits-small (suc levels) part state h = h .1 refl
 
 -- ---- its records
-pub operands-most : (f : Form) → signatureOf f .operands ≤ 2
-unfolding signatureOf
-operands-most Constant = omega arith
-operands-most Variable = omega arith
-operands-most Arithmetic = omega arith
-operands-most Indicator = omega arith
-operands-most Literal = omega arith
-operands-most Negation = omega arith
-operands-most Connective = omega arith
-operands-most Comparison = omega arith
-operands-most Unfit = omega arith
-
 operands-within : (F : List ℕ → Type 0) (below : ℕ) (part : List ℕ) (n : ℕ) → n ≤ 2 → 8 ≤ length part → ((p : List ℕ) → F p → 8 * span below p ≤ length p)
     → OperandsFit F below part n → 8 * spans (span below) n 1 part ≤ length part
 unfolding OperandsFit spans firstOperand secondOperand
 operands-within F below part zero l there ih h = omega arith
 operands-within F below part (suc zero) l there ih h = omega (arith, ih (firstOperand part) h, length-drop 8 part)
 operands-within F below part (suc (suc zero)) l there ih h =
-    omega (arith, ih (firstOperand part) (h .0), ih (secondOperand below part) (h .1), length-drop 8 part, length-drop (8 * (1 + span below (firstOperand part))) part)
+    let second = 8 * (1 + span below (firstOperand part)) in
+    omega (arith, ih (firstOperand part) (h .0), ih (secondOperand below part) (h .1), length-drop 8 part, length-drop second part)
 operands-within F below part (suc (suc (suc n))) l there ih h = absurd (omega arith)
 
 pub fits-within : (levels want : ℕ) (part : List ℕ) (state : List ℤ) → Fits levels want part state → 8 * span levels part ≤ length part

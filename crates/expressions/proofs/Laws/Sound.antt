@@ -62,7 +62,7 @@ module _ (file : List ℕ) (at : ℕ) where
   pub part-length : at < length file / 8 → 8 ≤ length (partAt file at)
   part-length l = omega (arith, length-drop (8 * at) file)
 
--- ---- the three operations, and the indicator
+-- ---- the three operations, the indicator and the constant
 combine-in : (kind : ℕ) {x y : ℤ} {i j : Interval} → In x i → In y j → In (combine kind x y) (overEnds (combine kind) i j)
 unfolding combine
 combine-in kind {x} {y} {i} {j} h k =
@@ -72,7 +72,12 @@ combine-in kind {x} {y} {i} {j} h k =
 
 indicator-in : (p : Bool) → In (indicatorOf p) unit
 unfolding indicatorOf
-indicator-in p = by-test p (λ t. In (cond t (pos 1) (pos 0)) unit) (λ e. record { above = omega ints; below = omega ints }) (λ e. record { above = omega ints; below = omega ints })
+indicator-in p =
+    by-test p (λ t. In (cond t (pos 1) (pos 0)) unit) (λ e. record { above = omega ints; below = omega ints })
+    (λ e. record { above = omega ints; below = omega ints })
+
+constant-in : (x : ℤ) → In x (interval x x)
+constant-in x = record { above = ≤ℤ-refl x; below = ≤ℤ-refl x }
 
 -- ---- the values of the file's variables lie in their ranges
 module _ (file : List ℕ) (vars : ℕ) (most : vars ≤ 12) (state : List ℤ)
@@ -99,10 +104,10 @@ module _ (file : List ℕ) (vars : ℕ) (most : vars ≤ 12) (state : List ℤ)
     count-at : {f : Form} {n : ℕ} → formAt file at ≡ f → signatureAt file at .operands ≡ n → signatureOf f .operands ≡ n
     count-at is m = sym (ap (λ (f : Form). signatureOf f .operands) is) ∙ m
 
-    number-by : (f : Form) → formAt file at ≡ f → signatureOf f .sort ≡ numberSort → (f ≡ Variable → fieldA file at < vars) → {i : Interval} → Operands file vars levels at end i
-        → In (numberBy levels N (λ p. truth levels p state) f (partAt file at) state) i
+    number-by : (f : Form) → formAt file at ≡ f → signatureOf f .sort ≡ numberSort → (f ≡ Variable → fieldA file at < vars)
+        → {i : Interval} → Operands file vars levels at end i → In (numberBy levels N (λ p. truth levels p state) f (partAt file at) state) i
     unfolding numberBy signatureOf leafOf joinOf
-    number-by Constant is sort named (Operands.none m e) = rw (is, value-part file at) (record { above = ≤ℤ-refl (valueB file at); below = ≤ℤ-refl (valueB file at) })
+    number-by Constant is sort named (Operands.none m e) = rw (is, value-part file at) (constant-in (valueB file at))
     number-by Constant is sort named (Operands.one {j} m x) = let z : _≡_ {A = ℕ} 0 1 = count-at is m in absurd (omega arith)
     number-by Constant is sort named (Operands.two {mid} {j} {k} m x y) = let z : _≡_ {A = ℕ} 0 2 = count-at is m in absurd (omega arith)
     number-by Variable is sort named (Operands.none m e) = rw (is, variable-part file at) (inside (fieldA file at) (named refl))
@@ -112,7 +117,8 @@ module _ (file : List ℕ) (vars : ℕ) (most : vars ≤ 12) (state : List ℤ)
     number-by Arithmetic is sort named (Operands.one {j} m x) = let z : _≡_ {A = ℕ} 2 1 = count-at is m in absurd (omega arith)
     number-by Arithmetic is sort named (Operands.two {mid} {j} {k} m x y) =
         let over : signatureAt file at .over ≡ numberSort = ap (λ (f : Form). signatureOf f .over) is in
-        rw (is, kind-part file at, first-part file at, second-at x) (combine-in (kindAt file at) (ih _ _ _ _ x .number-lies over) (ih _ _ _ _ y .number-lies over))
+        let operands-in = combine-in (kindAt file at) (ih _ _ _ _ x .number-lies over) (ih _ _ _ _ y .number-lies over) in
+        rw (is, kind-part file at, first-part file at, second-at x) operands-in
     number-by Indicator is sort named (Operands.none m e) = let z : _≡_ {A = ℕ} 1 0 = count-at is m in absurd (omega arith)
     number-by Indicator is sort named (Operands.one {j} m x) = indicator-in (truth levels (firstOperand (partAt file at)) state)
     number-by Indicator is sort named (Operands.two {mid} {j} {k} m x y) = let z : _≡_ {A = ℕ} 1 2 = count-at is m in absurd (omega arith)
@@ -133,7 +139,11 @@ module _ (file : List ℕ) (vars : ℕ) (most : vars ≤ 12) (state : List ℤ)
       (number-by levels at end ih (formAt file at) refl (o .sort ∙ w) (o .variable) (o .operands)) in
       record {
         fits = (
-          record { there = part-length file at (o .here); sort = ap (λ (f : Form). signatureOf f .sort) (form-part file at) ∙ o .sort; variable = λ v. rw (variable-part file at) (let l = o .variable (sym (form-part file at) ∙ v) in omega arith) },
+          record {
+            there = part-length file at (o .here);
+            sort = ap (λ (f : Form). signatureOf f .sort) (form-part file at) ∙ o .sort;
+            variable = λ v. rw (variable-part file at) (let l = o .variable (sym (form-part file at) ∙ v) in omega arith);
+          },
           λ w. in-bounds (expression-bounded file vars want at end x) (lies w),
           rw (form-part file at) (operands-fit levels at end ih (o .operands)),
         );

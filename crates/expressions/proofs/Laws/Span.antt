@@ -15,8 +15,9 @@ use lib.ListN.{length, getD, drop, replicate, length-drop}
 use lib.Seq.{getD-drop, drop-drop}
 use Rattle.records.specs.Kind.{formAt, signatureOf, signatureAt}
 use Rattle.records.specs.Walk.{spans, span}
+use Rattle.records.proofs.Laws.Kind.{operands-most}
 use Rattle.expressions.specs.Expression.{partAt, firstOperand, secondOperand, OperandsFit, Fits, spanBy, withSpan, spansFrom, spansOf, Spans}
-use Rattle.expressions.proofs.Laws.Expression.{span-opens, fits-opens, fits-level, fits-here, operands-most}
+use Rattle.expressions.proofs.Laws.Expression.{span-opens, fits-opens, fits-level, fits-here}
 use Rattle.expressions.proofs.Laws.Sound.{form-part, part-part, first-part, second-part}
 
 -- ---- zeros

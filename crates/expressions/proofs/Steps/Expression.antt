@@ -18,18 +18,19 @@ use Rattle.records.specs.Kind.{within, formOf, formAt, signatureOf}
 use Rattle.records.specs.Kind.{number as numberSort, truth as truthSort}
 use Rattle.records.specs.Walk.{span}
 use Rattle.intervals.specs.Interval.{combine}
-use Rattle.expressions.specs.Expression.{partAt, firstOperand, secondOperand, indicatorOf, connectOf, compareOf, numberBy, truthBy, number, truth, OperandsFit, Fits, Spans}
+use Rattle.expressions.specs.Expression.{partAt, firstOperand, secondOperand, indicatorOf, connectOf, compareOf, numberBy, truthBy, number, truth}
+use Rattle.expressions.specs.Expression.{OperandsFit, Fits, Spans}
 use Rattle.expressions.proofs.Laws.Expression.{number-opens, truth-opens, fits-opens, fits-level, fits-record, fits-small, fits-within}
 use Rattle.expressions.proofs.Laws.Span.{spans-from}
 
 -- ---- the kinds of the numbers and of the truths
 within-by : (P : Form → Type 0) (lo hi kind : ℕ) {hit miss : Form} → (lo ≤ kind → kind ≤ hi → P hit) → P miss → P (within lo hi kind hit miss)
 unfolding within
-within-by P lo hi kind {hit} {miss} h m = go (leb lo kind && leb kind hi) refl
+within-by P lo hi kind {hit} {miss} h m = by-kind (leb lo kind && leb kind hi) refl
   where
-    go : (b : Bool) → (leb lo kind && leb kind hi) ≡ b → P (cond b hit miss)
-    go true e = let p = and-eq-true-iff (leb lo kind) (leb kind hi) .0 e in h (leb-true lo kind (p .0)) (leb-true kind hi (p .1))
-    go false e = m
+    by-kind : (b : Bool) → (leb lo kind && leb kind hi) ≡ b → P (cond b hit miss)
+    by-kind true e = let p = and-eq-true-iff (leb lo kind) (leb kind hi) .0 e in h (leb-true lo kind (p .0)) (leb-true kind hi (p .1))
+    by-kind false e = m
 
 abbrev Sorted : ℕ → Form → Type 0
 Sorted kind f =

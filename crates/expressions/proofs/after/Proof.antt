@@ -1,4 +1,4 @@
--- `expressions::after` meets its contract. Assumes nothing.
+-- `expressions::after`: the part up to its end is all that is left of it. Assumes nothing.
 use borrow.Author.Needs.{needs}
 use Prim.Native.Nat.{_*_}
 use Rattle.expressions.proofs.Laws.Part.{take-rest}

@@ -1,4 +1,4 @@
--- `expressions::compare` meets its contract: the tests of the bits are those of the numbers. Assumes nothing.
+-- `expressions::compare`: the tests of the bits are those of the numbers. Assumes nothing.
 use mir.Facts.{toZ-ofZ}
 use borrow.Author.Tests.{ne-eqb}
 use Rattle.integers.proofs.Laws.Equality.{bits-equal}

@@ -1,4 +1,4 @@
--- `expressions::constant` meets its contract. Assumes nothing.
+-- `expressions::constant`: the two bytes' number is the same at 16 and at 64 bits. Assumes nothing.
 use mir.Syntax.{w16, w64}
 use Rattle.integers.proofs.Laws.Parts.{back}
 use borrow.Author.Needs.{needs}

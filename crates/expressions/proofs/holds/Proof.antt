@@ -1,4 +1,4 @@
--- `expressions::holds` meets its contract. Assumes nothing.
+-- `expressions::holds`: the expression that fits at `at` is the one that the part from there on begins with. Assumes nothing.
 use Prim.Native.Nat.{_+_, _*_, _≤_}
 use native.Mathlib.Omega.{arith}
 use lib.ListN.{length}

@@ -1,4 +1,4 @@
--- `expressions::indicator` meets its contract. Assumes nothing.
+-- `expressions::indicator`: by the test. Assumes nothing.
 use Rattle.expressions.specs.Expression.{indicatorOf}
 use Rattle.expressions.proofs.indicator.Statement.{statement}
 use Rattle.expressions.proofs.indicator.Tie as tie

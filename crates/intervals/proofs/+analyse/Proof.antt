@@ -1,14 +1,17 @@
--- `intervals::analyse` meets its contract: the analysis of each operand says what that of the record does. The measure is the levels left.
+-- `intervals::analyse`: the record at hand is judged by its operands (`record-analysed`), each by a call with one level less. The measure is the levels
+-- left.
 -- Assumes nothing.
 use native.Mathlib.Omega.{arith}
-use mathlib.Core.Path.{sym, ap, _∙_}
+use mathlib.Core.Path.{_≡_, sym, ap, _∙_}
 use Rattle.records.specs.Kind.{signatureOf}
-use Prim.Native.Nat.{ℕ, _<_}
+use Prim.Native.Nat.{ℕ, _-_, _<_}
 use borrow.Author.Needs.{needs}
 use Rattle.intervals.proofs.Steps.Interval.{analyse-deep, analyse-short, analyse-step, by-none, by-out, by-one, by-two-out, by-two, own-same, own-join}
-use Rattle.intervals.specs.Interval.{leafOf}
+use Rattle.intervals.specs.declared.Analysis.{Analysis}
+use Rattle.intervals.specs.Interval.{leafOf, byOperands, analysisOf}
 use Rattle.intervals.proofs.Laws.Interval.{analysis-bounded}
 use borrow.Fn.Kinds.{In}
+use denote.Ref.{now}
 use borrow.Fn.PlainCycle.{Measures, is, falls, and}
 use Rattle.intervals.proofs.analyse.Reads as analyse
 use Rattle.intervals.proofs.analyse.Kinds as analyse-kinds
@@ -31,7 +34,38 @@ abbrev analyse-below : ℕ → In 1 analyse-kinds.ps
 analyse-below t = and 1 analyse-kinds.ps (falls 1 analyse-kinds.ps _<_ μ-analyse t) analyse.Pre
 
 abbrev others : ℕ → analyse-lts.Claims
-others t = (form-of-reads.Asked, form-of-reads.Learnt, signature-of-reads.Asked, signature-of-reads.Learnt, leaf-reads.Asked, leaf-reads.Learnt, own-reads.Asked, own-reads.Learnt, analyse-below t, analyse.Post, join-reads.Asked, join-reads.Learnt)
+others t = (
+  form-of-reads.Asked,
+  form-of-reads.Learnt,
+  signature-of-reads.Asked,
+  signature-of-reads.Learnt,
+  leaf-reads.Asked,
+  leaf-reads.Learnt,
+  own-reads.Asked,
+  own-reads.Learnt,
+  analyse-below t,
+  analyse.Post,
+  join-reads.Asked,
+  join-reads.Learnt,
+)
+
+-- ---- the record at hand, once its kind is read
+module _ (t : ℕ) where
+  abbrev Opened : Type 0
+  Opened = analyse-lts.After-signature-of (others t) (analyse-at t) analyse.Post
+
+  abbrev args : (s : Opened) → analyse-lts.Args (others t) (analyse-at t) analyse.Post (s .before .before .before .before .before .before .κs)
+  args s = s .before .before .before .before .before .before .args
+
+  abbrev analysed : Opened → ℕ → ℕ → Analysis
+  analysed s levels at = analysisOf (now (args s .file)) levels at
+
+  record-analysed : (s : Opened)
+      → analysed s (args s .levels) (args s .at)
+      ≡ byOperands (now (args s .file)) (args s .at) (analysed s (args s .levels - 1)) (s .signature-of .result .operands)
+  record-analysed s =
+      analyse-step _ _ _ (s .signature-of .ensures ∙ ap signatureOf (s .before .form-of .ensures)) _ (s .before .before .before .if2 .left)
+      (s .before .before .before .before .if1 .left)
 
 analyse-returns : (t : ℕ) → analyse-lts.Need-returns (others t) (analyse-at t) analyse.Post
 analyse-returns t c = sym (analyse-deep _ _ _ (c .if1 .taken))
@@ -61,7 +95,10 @@ analyse-own-requires : (t : ℕ) → analyse-lts.Need-own-requires (others t) (a
 analyse-own-requires t c κs = tt
 
 analyse-returns-3 : (t : ℕ) → analyse-lts.Need-returns-3 (others t) (analyse-at t) analyse.Post
-analyse-returns-3 t c = c .own .ensures ∙ own-same _ _ _ _ (c .before .leaf .ensures ∙ ap (leafOf _ _) (c .before .before .before .before .form-of .ensures)) ∙ sym (analyse-step _ _ _ (c .before .before .before .signature-of .ensures ∙ ap signatureOf (c .before .before .before .before .form-of .ensures)) _ (c .before .before .before .before .before .before .if2 .left) (c .before .before .before .before .before .before .before .if1 .left) ∙ by-none _ _ _ _ (c .before .before .if3 .taken))
+analyse-returns-3 t c =
+    let opened = c .before .before .before in
+    let leaf = c .before .leaf .ensures ∙ ap (leafOf _ _) (opened .before .form-of .ensures) in
+    c .own .ensures ∙ own-same _ _ _ _ leaf ∙ sym (record-analysed t opened ∙ by-none _ _ _ _ (c .before .before .if3 .taken))
 
 analyse-sub-analyse : (t : ℕ) → analyse-lts.Need-sub-analyse (others t) (analyse-at t) analyse.Post
 analyse-sub-analyse t c = omega arith
@@ -70,7 +107,7 @@ analyse-add-analyse : (t : ℕ) → analyse-lts.Need-add-analyse (others t) (ana
 analyse-add-analyse t c = omega arith
 
 analyse-analyse-requires : (t : ℕ) → analyse-lts.Need-analyse-requires (others t) (analyse-at t) analyse.Post
-analyse-analyse-requires t c κs = (omega (arith, c .before .before .before .before .before .before .before .pre .0), tt)
+analyse-analyse-requires t c κs = let opened = c .before in (omega (arith, opened .before .before .before .before .before .before .pre .0), tt)
 
 analyse-enum-known-left : (t : ℕ) → analyse-lts.Need-enum-known-left (others t) (analyse-at t) analyse.Post
 analyse-enum-known-left t c = search needs
@@ -79,19 +116,29 @@ analyse-own-requires-2 : (t : ℕ) → analyse-lts.Need-own-requires-2 (others t
 analyse-own-requires-2 t c κs = tt
 
 analyse-returns-4 : (t : ℕ) → analyse-lts.Need-returns-4 (others t) (analyse-at t) analyse.Post
-analyse-returns-4 t c = c .own2 .ensures ∙ sym (analyse-step _ _ _ (c .before .before .before .before .before .before .before .signature-of .ensures ∙ ap signatureOf (c .before .before .before .before .before .before .before .before .form-of .ensures)) _ (c .before .before .before .before .before .before .before .before .before .before .if2 .left) (c .before .before .before .before .before .before .before .before .before .before .before .if1 .left) ∙ by-one _ _ _ _ _ (sym (c .before .before .before .before .before .analyse .ensures) ∙ c .before .before .before .left .given .1) _ (c .before .if4 .taken))
+analyse-returns-4 t c =
+    let left = c .before .before .before in
+    let left-within = sym (left .before .before .analyse .ensures) ∙ left .left .given .1 in
+    c .own2 .ensures ∙ sym (record-analysed t (left .before .before .before .before) ∙ by-one _ _ _ _ _ left-within _ (c .before .if4 .taken))
 
 analyse-sub-analyse-2 : (t : ℕ) → analyse-lts.Need-sub-analyse-2 (others t) (analyse-at t) analyse.Post
 analyse-sub-analyse-2 t c = omega arith
 
 analyse-analyse-requires-2 : (t : ℕ) → analyse-lts.Need-analyse-requires-2 (others t) (analyse-at t) analyse.Post
-analyse-analyse-requires-2 t c κs = (omega (arith, c .before .before .before .before .before .before .before .before .before .before .before .before .pre .0), tt)
+analyse-analyse-requires-2 t c κs =
+    let opened = c .before .before .before .before .before .before in
+    (omega (arith, opened .before .before .before .before .before .before .pre .0), tt)
 
 analyse-enum-known-right : (t : ℕ) → analyse-lts.Need-enum-known-right (others t) (analyse-at t) analyse.Post
 analyse-enum-known-right t c = search needs
 
 analyse-join-requires : (t : ℕ) → analyse-lts.Need-join-requires (others t) (analyse-at t) analyse.Post
-analyse-join-requires t c κs = (analysis-bounded _ _ _ _ _ (sym (c .before .before .before .before .before .before .before .before .analyse .ensures) ∙ c .before .before .before .before .before .before .left .given .1), analysis-bounded _ _ _ _ _ (sym (c .before .before .before .analyse2 .ensures) ∙ c .before .right .given .1))
+analyse-join-requires t c κs =
+    let right = c .before in
+    let left = right .before .before .before .before .before in (
+      analysis-bounded _ _ _ _ _ (sym (left .before .before .analyse .ensures) ∙ left .left .given .1),
+      analysis-bounded _ _ _ _ _ (sym (right .before .before .analyse2 .ensures) ∙ right .right .given .1),
+    )
 
 analyse-own-requires-3 : (t : ℕ) → analyse-lts.Need-own-requires-3 (others t) (analyse-at t) analyse.Post
 analyse-own-requires-3 t c κs = tt
@@ -103,13 +150,30 @@ analyse-enum-known-left-2 : (t : ℕ) → analyse-lts.Need-enum-known-left-2 (ot
 analyse-enum-known-left-2 t c = search needs
 
 analyse-returns-5 : (t : ℕ) → analyse-lts.Need-returns-5 (others t) (analyse-at t) analyse.Post
-analyse-returns-5 t c = c .own3 .ensures ∙ own-join _ _ _ _ _ _ _ _ (c .before .join .ensures) (c .before .before .before .before .before .before .before .before .before .before .before .before .before .form-of .ensures) ∙ sym (analyse-step _ _ _ (c .before .before .before .before .before .before .before .before .before .before .before .before .signature-of .ensures ∙ ap signatureOf (c .before .before .before .before .before .before .before .before .before .before .before .before .before .form-of .ensures)) _ (c .before .before .before .before .before .before .before .before .before .before .before .before .before .before .before .if2 .left) (c .before .before .before .before .before .before .before .before .before .before .before .before .before .before .before .before .if1 .left) ∙ by-two _ _ _ _ _ (sym (c .before .before .before .before .before .before .before .before .before .before .analyse .ensures) ∙ c .before .before .before .before .before .before .before .before .left .given .1) _ (c .before .before .before .before .before .before .before .before .before .before .before .if3 .left) (c .before .before .before .before .before .before .if4 .left) _ _ (sym (c .before .before .before .before .before .analyse2 .ensures) ∙ c .before .before .before .right .given .1))
+analyse-returns-5 t c =
+    let right = c .before .before .before in
+    let not-one = right .before .before .before .if4 .left in
+    let left = right .before .before .before .before .before in
+    let opened = left .before .before .before .before in
+    let left-within = sym (left .before .before .analyse .ensures) ∙ left .left .given .1 in
+    let right-within = sym (right .before .before .analyse2 .ensures) ∙ right .right .given .1 in
+    c .own3 .ensures ∙ own-join _ _ _ _ _ _ _ _ (c .before .join .ensures) (opened .before .form-of .ensures)
+    ∙ sym (record-analysed t opened ∙ by-two _ _ _ _ _ left-within _ (left .before .before .before .if3 .left) not-one _ _ right-within)
 
 analyse-returns-6 : (t : ℕ) → analyse-lts.Need-returns-6 (others t) (analyse-at t) analyse.Post
-analyse-returns-6 t c = sym (analyse-step _ _ _ (c .before .before .before .before .before .before .before .before .before .before .signature-of .ensures ∙ ap signatureOf (c .before .before .before .before .before .before .before .before .before .before .before .form-of .ensures)) _ (c .before .before .before .before .before .before .before .before .before .before .before .before .before .if2 .left) (c .before .before .before .before .before .before .before .before .before .before .before .before .before .before .if1 .left) ∙ by-two-out _ _ _ _ _ (sym (c .before .before .before .before .before .before .before .before .analyse .ensures) ∙ c .before .before .before .before .before .before .left .given .1) _ _ (c .before .before .before .before .before .before .before .before .before .if3 .left) (c .before .before .before .before .if4 .left) (sym (c .before .before .before .analyse2 .ensures) ∙ c .before .right2 .given .1))
+analyse-returns-6 t c =
+    let right = c .before in
+    let not-one = right .before .before .before .if4 .left in
+    let left = right .before .before .before .before .before in
+    let left-within = sym (left .before .before .analyse .ensures) ∙ left .left .given .1 in
+    let out = sym (right .before .before .analyse2 .ensures) ∙ right .right2 .given .1 in
+    sym (record-analysed t (left .before .before .before .before) ∙ by-two-out _ _ _ _ _ left-within _ _ (left .before .before .before .if3 .left) not-one out)
 
 analyse-returns-7 : (t : ℕ) → analyse-lts.Need-returns-7 (others t) (analyse-at t) analyse.Post
-analyse-returns-7 t c = sym (analyse-step _ _ _ (c .before .before .before .before .before .signature-of .ensures ∙ ap signatureOf (c .before .before .before .before .before .before .form-of .ensures)) _ (c .before .before .before .before .before .before .before .before .if2 .left) (c .before .before .before .before .before .before .before .before .before .if1 .left) ∙ by-out _ _ _ _ _ (c .before .before .before .before .if3 .left) (sym (c .before .before .before .analyse .ensures) ∙ c .before .left2 .given .1))
+analyse-returns-7 t c =
+    let left = c .before in
+    let out = sym (left .before .before .analyse .ensures) ∙ left .left2 .given .1 in
+    sym (record-analysed t (left .before .before .before .before) ∙ by-out _ _ _ _ _ (left .before .before .before .if3 .left) out)
 
 pub +analyse-spec : {M : Type 1} → statement M
 +analyse-spec = close μ-analyse λ t. analyse-lts.spec (others t)

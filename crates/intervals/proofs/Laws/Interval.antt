@@ -18,12 +18,11 @@ use lib.Dec.{ltb}
 use Rattle.integers.specs.declared.Interval.{Interval}
 use Rattle.integers.specs.Interval.{inBounds, Bounded}
 use Rattle.integers.proofs.Laws.Interval.{bounded}
-use Rattle.records.specs.declared.kinds.Form.{Form}
-use Rattle.records.specs.declared.kinds.Form.the-variants.{Constant, Variable, Arithmetic, Indicator, Literal, Negation, Connective, Comparison, Unfit}
 use Rattle.records.specs.declared.walk.Walked.{Walked}
 use Rattle.records.specs.Record.{kindAt}
 use Rattle.records.specs.Kind.{formOf, signatureOf, formAt, signatureAt}
 use Rattle.records.specs.Walk.{walkOf, spans, span}
+use Rattle.records.proofs.Laws.Kind.{operands-most}
 use Rattle.records.proofs.Laws.Span.{walk-span}
 use Rattle.intervals.specs.declared.Analysis.{Analysis}
 use Rattle.intervals.specs.declared.Analysis.the-variants.{Within, Out}
@@ -33,69 +32,69 @@ use Rattle.intervals.specs.Interval.{unit, leafOf, joinOf, ownOf, andInt
 pub data Analysed (file : List ℕ) (levels at end : ℕ) : Interval → Type 0 where
   none : signatureAt file at .operands ≡ 0 → end ≡ at + 1 → Analysed file levels at end (leafOf file at (formAt file at))
   one : {j : Interval} → signatureAt file at .operands ≡ 1 → analysisOf file levels (at + 1) ≡ Within j end → Analysed file levels at end unit
-  two : {mid : ℕ} {j k : Interval} → signatureAt file at .operands ≡ 2 → analysisOf file levels (at + 1) ≡ Within j mid → analysisOf file levels mid ≡ Within k end
+  two : {mid : ℕ} {j k : Interval} → signatureAt file at .operands ≡ 2 → analysisOf file levels (at + 1) ≡ Within j mid
+      → analysisOf file levels mid ≡ Within k end
       → Analysed file levels at end (joinOf (kindAt file at) (formAt file at) j k)
-
-pub operands-most : (f : Form) → signatureOf f .operands ≤ 2
-unfolding signatureOf
-operands-most Constant = omega arith
-operands-most Variable = omega arith
-operands-most Arithmetic = omega arith
-operands-most Indicator = omega arith
-operands-most Literal = omega arith
-operands-most Negation = omega arith
-operands-most Connective = omega arith
-operands-most Comparison = omega arith
-operands-most Unfit = omega arith
 
 module _ (j : Interval) (e : ℕ) where
   own-opens : (i : Interval) (end at : ℕ) → ownOf i end at ≡ Within j e → (i ≡ j) × (end ≡ e) × Bounded j
   unfolding ownOf
-  own-opens i end at w = go (inBounds i) refl w
+  own-opens i end at w = by-bounds (inBounds i) refl w
     where
-      go : (b : Bool) → inBounds i ≡ b → cond b (Within i end) (Out at) ≡ Within j e → (i ≡ j) × (end ≡ e) × Bounded j
-      go true t q = let z : i ≡ j = cc in (z, cc, subst Bounded z (bounded t))
-      go false t q = let z : _≡_ {A = ℕ} 0 1 = cc in absurd (omega arith)
+      by-bounds : (b : Bool) → inBounds i ≡ b → cond b (Within i end) (Out at) ≡ Within j e → (i ≡ j) × (end ≡ e) × Bounded j
+      by-bounds true t q = let z : i ≡ j = cc in (z, cc, subst Bounded z (bounded t))
+      by-bounds false t q = let z : _≡_ {A = ℕ} 0 1 = cc in absurd (omega arith)
 
   module _ (file : List ℕ) (levels at : ℕ) where
-    one-opens : signatureAt file at .operands ≡ 1 → (w : Analysis) → analysisOf file levels (at + 1) ≡ w → andInterval w (λ i end. ownOf unit end at) ≡ Within j e
-        → Bounded j × Analysed file levels at e j
+    abbrev operands : ℕ
+    operands = signatureAt file at .operands
+
+    abbrev operand : ℕ → Analysis
+    operand = analysisOf file levels
+
+    -- of two operands with the intervals i and k, the second of which ends before `end`
+    abbrev joined : Interval → Interval → ℕ → Analysis
+    joined i k end = ownOf (joinOf (kindAt file at) (formAt file at) i k) end at
+
+    abbrev Opened : Type 0
+    Opened = Bounded j × Analysed file levels at e j
+
+    one-opens : operands ≡ 1 → (w : Analysis) → operand (at + 1) ≡ w → andInterval w (λ i end. ownOf unit end at) ≡ Within j e → Opened
     one-opens n (Analysis.Within i end) is q =
         let o = own-opens unit end at q in
         (o .2, subst (Analysed file levels at e) (o .0) (one n (is ∙ ap (Within i) (o .1))))
     one-opens n (Analysis.Out place) is q = let z : _≡_ {A = ℕ} 0 1 = cc in absurd (omega arith)
 
-    right-opens : signatureAt file at .operands ≡ 2 → (i : Interval) (mid : ℕ) → analysisOf file levels (at + 1) ≡ Within i mid → (w : Analysis) → analysisOf file levels mid ≡ w
-        → andInterval w (λ k end. ownOf (joinOf (kindAt file at) (formAt file at) i k) end at) ≡ Within j e → Bounded j × Analysed file levels at e j
+    right-opens : operands ≡ 2 → (i : Interval) (mid : ℕ) → operand (at + 1) ≡ Within i mid → (w : Analysis) → operand mid ≡ w
+        → andInterval w (joined i) ≡ Within j e → Opened
     right-opens n i mid left (Analysis.Within k end) is q =
         let o = own-opens (joinOf (kindAt file at) (formAt file at) i k) end at q in
         (o .2, subst (Analysed file levels at e) (o .0) (two n left (is ∙ ap (Within k) (o .1))))
     right-opens n i mid left (Analysis.Out place) is q = let z : _≡_ {A = ℕ} 0 1 = cc in absurd (omega arith)
 
-    two-opens : signatureAt file at .operands ≡ 2 → (w : Analysis) → analysisOf file levels (at + 1) ≡ w
-        → andInterval w (λ i next. andInterval (analysisOf file levels next) λ k end. ownOf (joinOf (kindAt file at) (formAt file at) i k) end at) ≡ Within j e
-        → Bounded j × Analysed file levels at e j
-    two-opens n (Analysis.Within i mid) is q = right-opens n i mid is (analysisOf file levels mid) refl q
+    two-opens : operands ≡ 2 → (w : Analysis) → operand (at + 1) ≡ w → andInterval w (λ i next. andInterval (operand next) (joined i)) ≡ Within j e
+        → Opened
+    two-opens n (Analysis.Within i mid) is q = right-opens n i mid is (operand mid) refl q
     two-opens n (Analysis.Out place) is q = let z : _≡_ {A = ℕ} 0 1 = cc in absurd (omega arith)
 
-    by-opens : (n : ℕ) → signatureAt file at .operands ≡ n → n ≤ 2 → byOperands file at (analysisOf file levels) n ≡ Within j e → Bounded j × Analysed file levels at e j
+    by-opens : (n : ℕ) → operands ≡ n → n ≤ 2 → byOperands file at operand n ≡ Within j e → Opened
     unfolding byOperands
     by-opens zero n l q =
         let o = own-opens (leafOf file at (formAt file at)) (at + 1) at q in
         let ends = o .1 in
         (o .2, subst (Analysed file levels at e) (o .0) (none n (omega arith)))
-    by-opens (suc zero) n l q = one-opens n (analysisOf file levels (at + 1)) refl q
-    by-opens (suc (suc zero)) n l q = two-opens n (analysisOf file levels (at + 1)) refl q
+    by-opens (suc zero) n l q = one-opens n (operand (at + 1)) refl q
+    by-opens (suc (suc zero)) n l q = two-opens n (operand (at + 1)) refl q
     by-opens (suc (suc (suc m))) n l q = absurd (omega arith)
 
     pub analysis-opens : analysisOf file (suc levels) at ≡ Within j e → (at < length file / 8) × Bounded j × Analysed file levels at e j
     unfolding analysisOf
-    analysis-opens q = go (ltb at (length file / 8)) refl q
+    analysis-opens q = by-place (ltb at (length file / 8)) refl q
       where
-        go : (b : Bool) → ltb at (length file / 8) ≡ b → cond b (byOperands file at (analysisOf file levels) (signatureAt file at .operands)) (Out at) ≡ Within j e
+        by-place : (b : Bool) → ltb at (length file / 8) ≡ b → cond b (byOperands file at operand operands) (Out at) ≡ Within j e
             → (at < length file / 8) × Bounded j × Analysed file levels at e j
-        go true l w = let o = by-opens (signatureAt file at .operands) refl (operands-most (formAt file at)) w in (ltb-true _ _ l, o .0, o .1)
-        go false l w = let z : _≡_ {A = ℕ} 0 1 = cc in absurd (omega arith)
+        by-place true l w = let o = by-opens operands refl (operands-most (formAt file at)) w in (ltb-true _ _ l, o .0, o .1)
+        by-place false l w = let z : _≡_ {A = ℕ} 0 1 = cc in absurd (omega arith)
 
   pub analysis-deepest : (file : List ℕ) (at : ℕ) → analysisOf file zero at ≡ Within j e → ⊥
   unfolding analysisOf
@@ -137,14 +136,19 @@ analysis-walk file vars levels want at end j e w q =
     omega arith
 
 module _ (file : List ℕ) where
-  pub analysis-within : (levels at end : ℕ) (i : Interval) → analysisOf file levels at ≡ Within i end → end ≤ length file / 8
+  abbrev EndsWithin : ℕ → Type 0
+  EndsWithin levels = (at end : ℕ) (i : Interval) → analysisOf file levels at ≡ Within i end → end ≤ length file / 8
+
+  analysed-within : {levels at end : ℕ} {i : Interval} → at < length file / 8 → EndsWithin levels → Analysed file levels at end i → end ≤ length file / 8
+  analysed-within l operand (none n e) = omega arith
+  analysed-within {at = at} {end} l operand (one {j} n q) = operand (at + 1) end j q
+  analysed-within {end = end} l operand (two {mid} {j} {k} n p q) = operand mid end k q
+
+  pub analysis-within : (levels : ℕ) → EndsWithin levels
   analysis-within zero at end i q = absurd (analysis-deepest i end file at q)
-  analysis-within (suc levels) at end i q = let o = analysis-opens i end file levels at q in go (o .0) (analysis-within levels) (o .2)
-    where
-      go : at < length file / 8 → ((x y : ℕ) (j : Interval) → analysisOf file levels x ≡ Within j y → y ≤ length file / 8) → {j : Interval} → Analysed file levels at end j → end ≤ length file / 8
-      go l ih (none n e) = omega arith
-      go l ih (one {j} n q) = ih (at + 1) end j q
-      go l ih (two {mid} {j} {k} n p q) = ih mid end k q
+  analysis-within (suc levels) at end i q =
+      let o = analysis-opens i end file levels at q in
+      analysed-within (o .0) (analysis-within levels) (o .2)
 
 spans-least : (count : List ℕ → ℕ) (part : List ℕ) (n k : ℕ) → k ≤ spans count n k part
 unfolding spans

@@ -1,23 +1,22 @@
--- One step of `analysisOf` and of `analysedFrom`, by the tests in their order, and the forms that a `match`'s last arm stands for.
+-- One step of `analysisOf`, by the tests in their order, and the forms that a `match`'s last arm stands for.
 -- Assumes nothing.
-use mathlib.Core.Path.{_≡_, refl, ap, _∙_}
+use mathlib.Core.Path.{_≡_, refl, ap}
 use mathlib.Core.List.{List, [], _∷_}
 use Prim.Native.Nat.{ℕ, zero, suc, _+_, _-_, _*_, _/_, _<_, _≤_}
 use native.Mathlib.Numerals.{sub-one}
 use native.Mathlib.Omega.{arith}
 use types.Run.{OneOf, miss}
 use denote.Enum.Declared.{tagOf}
-use borrow.Author.Tests.{lt-ltb, le-ltb, eq-eqb, ne-eqb}
+use borrow.Author.Tests.{lt-ltb, le-ltb}
 use lib.ListN.{length, getD}
 use Rattle.integers.specs.declared.Interval.{Interval}
 use Rattle.records.proofs.kinds.Form.{the-type}
 use Rattle.records.specs.declared.kinds.Form.{Form}
 use Rattle.records.specs.declared.kinds.Form.the-variants.{Constant, Variable, Arithmetic, Indicator, Literal, Negation, Connective, Comparison, Unfit}
 use Rattle.records.specs.declared.kinds.Signature.{Signature}
-use Rattle.records.specs.declared.walk.Walked.{Walked}
-use Rattle.records.specs.Kind.{none, formAt, signatureAt}
+use Rattle.records.specs.Kind.{formAt, signatureAt}
 use Rattle.intervals.specs.declared.Analysis.{Analysis}
-use Rattle.intervals.specs.Interval.{unit, leafOf, joinOf, ownOf, byOperands, analysisOf, andExpression, analysedFrom, intervalsOf}
+use Rattle.intervals.specs.Interval.{unit, leafOf, joinOf, ownOf, byOperands, analysisOf}
 
 abbrev pub others : List ℕ
 others = 2 ∷ 3 ∷ 4 ∷ 5 ∷ 6 ∷ 7 ∷ 8 ∷ []
@@ -57,7 +56,8 @@ module _ (file : List ℕ) (at : ℕ) where
   analyse-short zero h = refl
   analyse-short (suc levels) h = rw (le-ltb _ _ h)
 
-  pub analyse-step : (s : Signature) → s ≡ signatureAt file at → (levels : ℕ) → at < length file / 8 → (levels ≡ 0 → ⊥) → analysisOf file levels at ≡ byOperands file at (analysisOf file (levels - 1)) (s .operands)
+  pub analyse-step : (s : Signature) → s ≡ signatureAt file at → (levels : ℕ) → at < length file / 8 → (levels ≡ 0 → ⊥)
+      → analysisOf file levels at ≡ byOperands file at (analysisOf file (levels - 1)) (s .operands)
   unfolding analysisOf
   analyse-step s is zero l h = absurd (h refl)
   analyse-step s is (suc levels) l h = rw (is, lt-ltb _ _ l, sub-one)
@@ -87,7 +87,8 @@ module _ (file : List ℕ) (at : ℕ) where
       by-two-out (suc zero) place h k e = absurd (k refl)
       by-two-out (suc (suc n)) place h k e = rw (left, e)
 
-      pub by-two : (n : ℕ) → (n ≡ 0 → ⊥) → (n ≡ 1 → ⊥) → (j : Interval) (end : ℕ) → operand next ≡ Analysis.Within j end → byOperands file at operand n ≡ ownOf (joinOf (getD file (8 * at) 0) (formAt file at) i j) end at
+      pub by-two : (n : ℕ) → (n ≡ 0 → ⊥) → (n ≡ 1 → ⊥) → (j : Interval) (end : ℕ) → operand next ≡ Analysis.Within j end
+          → byOperands file at operand n ≡ ownOf (joinOf (getD file (8 * at) 0) (formAt file at) i j) end at
       unfolding byOperands
       by-two zero h k j end e = absurd (h refl)
       by-two (suc zero) h k j end e = absurd (k refl)
@@ -96,46 +97,6 @@ module _ (file : List ℕ) (at : ℕ) where
 pub own-same : (i j : Interval) (end at : ℕ) → i ≡ j → ownOf i end at ≡ ownOf j end at
 own-same i j end at e = ap (λ (k : Interval). ownOf k end at) e
 
-pub own-join : (r : Interval) (kind : ℕ) (f g : Form) (i j : Interval) (end at : ℕ) → r ≡ joinOf kind f i j → f ≡ g → ownOf r end at ≡ ownOf (joinOf kind g i j) end at
+pub own-join : (r : Interval) (kind : ℕ) (f g : Form) (i j : Interval) (end at : ℕ) → r ≡ joinOf kind f i j → f ≡ g
+    → ownOf r end at ≡ ownOf (joinOf kind g i j) end at
 own-join r kind f g i j end at e h = rw (e, h)
-
--- ---- the expressions in file order
--- the expressions from `at` on, with steps enough for them, decide for all
-pub record Scan (file : List ℕ) (at : ℕ) : Type 0 where
-  pub left : ℕ
-  pub enough : length file / 8 ≤ at + left
-  pub same : intervalsOf file ≡ analysedFrom file left at
-
-pub scan-begins : (file : List ℕ) → Scan file 0
-unfolding intervalsOf
-scan-begins file = record { left = length file / 8; enough = omega arith; same = refl }
-
-module _ (file : List ℕ) (at : ℕ) where
-  over : (left : ℕ) → length file / 8 ≤ at → analysedFrom file left at ≡ Walked.End at
-  unfolding analysedFrom
-  over zero h = refl
-  over (suc left) h = rw (le-ltb _ _ h)
-
-  pub scan-over : length file / 8 ≤ at → Scan file at → intervalsOf file ≡ Walked.End at
-  scan-over h s = s .same ∙ over (s .left) h
-
-  module _ (here : at < length file / 8) where
-    skip : (left : ℕ) → length file / 8 ≤ at + left → signatureAt file at .sort ≡ none → intervalsOf file ≡ analysedFrom file left at → Scan file (at + 1)
-    unfolding analysedFrom
-    skip zero l u e = absurd (omega arith)
-    skip (suc left) l u e = record { left = left; enough = omega arith; same = e ∙ rw (lt-ltb _ _ here, eq-eqb _ _ u) }
-
-    pub scan-skip : (s : Signature) → s ≡ signatureAt file at → s .sort ≡ none → Scan file at → Scan file (at + 1)
-    scan-skip s is u r = skip (r .left) (r .enough) (rw is at u) (r .same)
-
-    module _ (s : Signature) (is : s ≡ signatureAt file at) (some : s .sort ≡ none → ⊥) where
-      analysed : (left : ℕ) → length file / 8 ≤ at + left → analysedFrom file left at ≡ andExpression (analysisOf file 16 at) (analysedFrom file (left - 1))
-      unfolding analysedFrom
-      analysed zero l = absurd (omega arith)
-      analysed (suc left) l = rw (← is, lt-ltb _ _ here, ne-eqb _ _ some, sub-one)
-
-      pub scan-out : (place : ℕ) → analysisOf file 16 at ≡ Analysis.Out place → Scan file at → intervalsOf file ≡ Walked.Refused 8 place
-      scan-out place q r = r .same ∙ analysed (r .left) (r .enough) ∙ rw q
-
-      pub scan-next : (i : Interval) (end : ℕ) → at < end → analysisOf file 16 at ≡ Analysis.Within i end → Scan file at → Scan file end
-      scan-next i end l q r = record { left = r .left - 1; enough = omega (arith, r .enough); same = r .same ∙ analysed (r .left) (r .enough) ∙ rw q }

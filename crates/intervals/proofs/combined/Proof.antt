@@ -1,4 +1,4 @@
--- `intervals::combined` meets its contract, by the tests passed.
+-- `intervals::combined`: the tests of the kind are those of `combine`.
 -- Assumes nothing.
 use borrow.Author.Tests.{eq-eqb, ne-eqb}
 use mathlib.Core.Path.{_∙_}

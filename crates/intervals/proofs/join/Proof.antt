@@ -1,4 +1,4 @@
--- `intervals::join` meets its contract, form by form.
+-- `intervals::join`, form by form: arithmetic is combined, any other form has the interval 0..1.
 -- Assumes nothing.
 use mathlib.Core.Path.{sym}
 use Rattle.intervals.specs.Interval.{joinOf}

@@ -1,4 +1,4 @@
--- `intervals::leaf` meets its contract, form by form.
+-- `intervals::leaf`, form by form: the values that the code reads are those of `leafOf`.
 -- Assumes nothing.
 use native.Mathlib.Omega.{arith}
 use mathlib.Core.Path.{sym}
@@ -59,7 +59,11 @@ returns c = rw (back w64 (c .wide-value-at .result) (c .wide-value-at .ok)) (sim
 
 returns-2 : tie.Need-returns-2
 unfolding leafOf
-returns-2 c = rw (back w64 (c .before .wide-value-at2 .result) (c .before .wide-value-at2 .ok), back w64 (c .wide-value-at3 .result) (c .wide-value-at3 .ok)) (simp (c .before .before .before .enum-told2 .given .1, c .before .wide-value-at2 .ensures, c .wide-value-at3 .ensures))
+returns-2 c =
+    let low = c .before .wide-value-at2 in
+    let high = c .wide-value-at3 in
+    let form = c .before .before .before .enum-told2 .given .1 in
+    rw (back w64 (low .result) (low .ok), back w64 (high .result) (high .ok)) (simp (form, low .ensures, high .ensures))
 
 returns-3 : tie.Need-returns-3
 returns-3 c = let a = c .before .before .args in sym (leaf-other (a .file .now) (a .at) (a .form) (c .match .keys3))

@@ -1,4 +1,4 @@
--- `intervals::own` meets its contract, by the test passed.
+-- `intervals::own`: the test of the bounds is that of `ownOf`.
 -- Assumes nothing.
 use mathlib.Core.Path.{sym, _∙_}
 use Rattle.intervals.specs.Interval.{ownOf}

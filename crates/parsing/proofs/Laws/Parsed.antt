@@ -5,7 +5,7 @@
 --     edges-end      the edges, of one record each, end the file
 --     edge-new       no edge repeats an earlier one
 -- Assumes nothing.
-use mathlib.Core.Path.{_≡_, refl}
+use mathlib.Core.Path.{_≡_}
 use mathlib.Core.Bool.{Bool, true, false, cond, _&&_, _||_, and-eq-true-iff}
 use mathlib.Core.List.{List}
 use Prim.Native.Nat.{ℕ, _+_, _-_, _*_, _/_, _<_, _≤_}
@@ -18,10 +18,10 @@ use Rattle.integers.proofs.Laws.Parts.{parts-≤, leZ-true}
 use Rattle.records.specs.declared.walk.Walked.{Walked}
 use Rattle.parsing.specs.declared.Outline.{Outline}
 use Rattle.records.specs.Record.{fieldA, fieldB, fieldC, fieldD, valueB, valueC, zerosOf, sameBytes}
-use Rattle.records.specs.Walk.{truthOf}
-use Rattle.sections.specs.Section.{noFields, variableFields, transitionFields, propertyFields, edgeFields, variablesOf, transitionOf, transitionsOf, phasesOr, nodesOf, repeatedOf, edgesOf}
+use Rattle.sections.specs.Section.{variableFields, propertyFields, edgeFields}
+use Rattle.sections.specs.Section.{variablesOf, transitionsOf, phasesOr, nodesOf, repeatedOf, edgeOf, edgesOf}
 use Rattle.truths.proofs.Laws.Any.{any-false}
-use Rattle.sections.proofs.Laws.Section.{items-most, items-single, single-nth}
+use Rattle.sections.proofs.Laws.Section.{items-most, items-single, single-nth, edge-opens}
 use Rattle.parsing.proofs.Laws.Outline.{Parses}
 
 -- ---- the number of nodes that a property allows
@@ -39,24 +39,15 @@ module _ (file : List ℕ) (at : ℕ) where
   unfolding propertyFields phasesOr
   property-nodes e = phases (eqb (fieldA file at) 2) ((eqb (fieldA file at) 1 || eqb (fieldA file at) 3) && zerosOf file (8 * at + 2) 6) e
 
--- ---- an edge's own test
-repeat-single : (i e : ℕ) (b : Bool) → cond b (Walked.Refused 6 i) (Walked.End (i + 1)) ≡ Walked.End e → e ≡ i + 1
-repeat-single i e true q = let z : _≡_ {A = ℕ} 0 1 = cc in absurd (omega arith)
-repeat-single i e false q = cc
-
-repeat-new : (i e : ℕ) (b : Bool) → cond b (Walked.Refused 6 i) (Walked.End (i + 1)) ≡ Walked.End e → b ≡ false
-repeat-new i e true q = let z : _≡_ {A = ℕ} 0 1 = cc in absurd (omega arith)
-repeat-new i e false q = refl
-
 module _ (file : List ℕ) (o : Outline) (p : Parses file o) where
   -- ---- counts
   pub variables-most : o .vars ≤ 12
   unfolding variablesOf
-  variables-most = items-most file 0x01 (variableFields file) (λ at. Walked.End (at + 1)) (o .vars) (o .vars) 12 0 0 (p .variables)
+  variables-most = items-most _ _ _ _ _ _ 12 0 _ (p .variables)
 
   pub transitions-most : o .transitions ≤ 32
   unfolding transitionsOf
-  transitions-most = items-most file 0x03 (transitionFields file) (transitionOf file (o .vars)) (o .transitions) (o .property) 32 0 (o .transition) (p .transitions)
+  transitions-most = items-most _ _ _ _ _ _ 32 0 _ (p .transitions)
 
   pub nodes-least : 1 ≤ o .nodes
   nodes-least = let z = property-nodes file (o .property) (p .property-right) .0 in omega (arith, p .enough)
@@ -65,24 +56,18 @@ module _ (file : List ℕ) (o : Outline) (p : Parses file o) where
   unfolding nodesOf
   nodes-most =
       let z = property-nodes file (o .property) (p .property-right) .1 in
-      let y = items-most file 0x06 (noFields file) (λ i. truthOf file (o .vars) (i + 1)) (o .nodes) (o .edge) (phasesOr file (o .property) 32) 0 (o .node) (p .nodes) in
-      omega arith
+      omega (arith, items-most _ _ _ _ _ _ (phasesOr file (o .property) 32) 0 _ (p .nodes))
 
-  abbrev edge : ℕ → Walked
-  edge i = cond (repeatedOf file i (o .edge) (i - o .edge)) (Walked.Refused 6 i) (Walked.End (i + 1))
-
-  edge-single : (i e : ℕ) → edge i ≡ Walked.End e → e ≡ i + 1
-  edge-single i e = repeat-single i e (repeatedOf file i (o .edge) (i - o .edge))
+  edge-single : (i e : ℕ) → edgeOf file (o .edge) i ≡ Walked.End e → e ≡ i + 1
+  edge-single i e q = edge-opens file (o .edge) i e q .1
 
   pub edges-most : o .edges ≤ 512
   unfolding edgesOf
-  edges-most = items-most file 0x07 (edgeFields file (o .transitions) (o .nodes)) edge (o .edges) (length file / 8) 512 0 (o .edge) (p .edges)
+  edges-most = items-most _ _ _ _ _ _ 512 0 _ (p .edges)
 
   pub edges-end : length file / 8 ≡ o .edge + o .edges
   unfolding edgesOf
-  edges-end =
-      let z = items-single file 0x07 (edgeFields file (o .transitions) (o .nodes)) edge edge-single (o .edges) (length file / 8) 512 0 (o .edge) (p .edges) in
-      omega arith
+  edges-end = omega (arith, items-single _ _ _ (edgeOf file (o .edge)) edge-single _ _ 512 0 _ (p .edges))
 
   -- ---- variables and edges
   variable-fields : (v : ℕ) → v < o .vars → variableFields file v ≡ true
@@ -99,13 +84,14 @@ module _ (file : List ℕ) (o : Outline) (p : Parses file o) where
       let z = and-eq-true-iff (zerosOf file (8 * v + 1) 1 && zerosOf file (8 * v + 6) 2) (leZ (valueB file v) (valueC file v)) .0 (variable-fields v l) in
       parts-≤ (valueB file v) (valueC file v) (leZ-true (valueB file v) (valueC file v) (z .1))
 
-  edge-both : (e : ℕ) → e < o .edges → (edgeFields file (o .transitions) (o .nodes) (o .edge + e) ≡ true) × (edge (o .edge + e) ≡ Walked.End (o .edge + e + 1))
+  edge-both : (e : ℕ) → e < o .edges
+      → let at = o .edge + e in (edgeFields file (o .transitions) (o .nodes) at ≡ true) × (edgeOf file (o .edge) at ≡ Walked.End (at + 1))
   unfolding edgesOf
-  edge-both e l = single-nth file 0x07 (edgeFields file (o .transitions) (o .nodes)) edge edge-single (o .edges) (length file / 8) 512 (o .edge) (p .edges) e l
+  edge-both = single-nth _ _ _ (edgeOf file (o .edge)) edge-single _ _ 512 _ (p .edges)
 
   -- "a transition, b from, c to, d = 0 single, 1 double"
   edge-named : (e : ℕ) → e < o .edges
-      → (fieldA file (o .edge + e) < o .transitions) × (fieldB file (o .edge + e) < o .nodes) × (fieldC file (o .edge + e) < o .nodes) × (fieldD file (o .edge + e) ≤ 1)
+      → let at = o .edge + e in (fieldA file at < o .transitions) × (fieldB file at < o .nodes) × (fieldC file at < o .nodes) × (fieldD file at ≤ 1)
   unfolding edgeFields
   edge-named e l =
       let at = o .edge + e in
@@ -135,4 +121,5 @@ module _ (file : List ℕ) (o : Outline) (p : Parses file o) where
   unfolding repeatedOf
   edge-new i j l m =
       let at = o .edge + j in
-      any-false (λ e. sameBytes file (8 * e + 1) (8 * at + 1) 5) (at - o .edge) (o .edge) (repeat-new at (at + 1) (repeatedOf file at (o .edge) (at - o .edge)) (edge-both j m .1)) i (omega arith)
+      let new = edge-opens file (o .edge) at (at + 1) (edge-both j m .1) .0 in
+      any-false (λ e. sameBytes file (8 * e + 1) (8 * at + 1) 5) (at - o .edge) (o .edge) new i (omega arith)

@@ -1,10 +1,11 @@
--- `parsing::parse` meets its contract, by the tests passed.
+-- `parsing::parse` meets its contract: the length is tested, then what `variables` finds picks the case.
 -- Assumes nothing.
-use borrow.Author.Tests.{eq-eqb, ne-eqb, le-leb, lt-leb}
+use borrow.Author.Tests.{eq-eqb, ne-eqb, lt-leb}
 use mathlib.Core.Path.{sym, _∙_}
 use Rattle.sections.specs.Section.{variablesOf}
 use Rattle.parsing.specs.Outline.{parsedOf}
 use Rattle.sections.proofs.Laws.Section.{items-most}
+use Rattle.parsing.proofs.Steps.Outline.{variables-counted, variables-refused}
 use borrow.Author.Needs.{needs}
 use Rattle.parsing.proofs.parse.Statement.{statement}
 use Rattle.parsing.proofs.parse.Tie as tie
@@ -31,12 +32,15 @@ enum-known-found-2 : tie.Need-enum-known-found-2
 enum-known-found-2 c = search needs
 
 returns-3 : tie.Need-returns-3
-unfolding parsedOf
-returns-3 c = simp (eq-eqb _ _ (c .before .before .before .before .before .before .if1 .left), le-leb _ _ (c .before .before .before .before .before .if2 .left), sym (c .before .before .before .before .variables .ensures) ∙ c .before .before .found .given .1) (c .parse-start .ensures)
+returns-3 c =
+    let s = c .before .before .before .before in
+    variables-counted _ (s .before .before .if1 .left) (s .before .if2 .left) (s .variables .ensures) (c .before .before .found .given .1)
+    (c .parse-start .ensures)
 
 returns-4 : tie.Need-returns-4
-unfolding parsedOf
-returns-4 c = simp (eq-eqb _ _ (c .before .before .before .before .before .if1 .left), le-leb _ _ (c .before .before .before .before .if2 .left), sym (c .before .before .before .variables .ensures) ∙ c .before .found2 .given .1)
+returns-4 c =
+    let s = c .before .before .before in
+    variables-refused _ (s .before .before .if1 .left) (s .before .if2 .left) (s .variables .ensures) (c .before .found2 .given .1)
 
 pub parse-spec : {M : Type 1} → statement M
 parse-spec =

@@ -1,8 +1,6 @@
--- `parsing::parse_nodes` meets its contract: what `nodes` finds picks the case.
+-- `parsing::parse_nodes` meets its contract: what `nodes` finds picks the case, and whether a wait-for has all its phases.
 -- Assumes nothing.
-use borrow.Author.Tests.{le-leb, lt-leb}
-use mathlib.Core.Path.{sym, _∙_}
-use Rattle.parsing.specs.Outline.{nodesParsed}
+use Rattle.parsing.proofs.Steps.Outline.{nodes-few, nodes-enough, nodes-refused}
 use borrow.Author.Needs.{needs}
 use Rattle.parsing.proofs.parse_nodes.Statement.{statement}
 use Rattle.parsing.proofs.parse_nodes.Tie as tie
@@ -20,8 +18,10 @@ phases-or-requires-2 : tie.Need-phases-or-requires-2
 phases-or-requires-2 c κs = search needs
 
 returns : tie.Need-returns
-unfolding nodesParsed
-returns c = simp (sym (c .before .before .before .before .before .before .phases-or .ensures .0), sym (c .before .before .before .before .before .nodes .ensures) ∙ c .before .before .before .found .given .1, sym (c .before .phases-or2 .ensures .0), lt-leb _ _ (c .if1 .taken))
+returns c =
+    let n = c .before .before .before .before .before in
+    nodes-few _ _ _ _ _ _ (n .before .phases-or .ensures .0) (n .nodes .ensures) (c .before .before .before .found .given .1)
+    (c .before .phases-or2 .ensures .0) (c .if1 .taken)
 
 parse-edges-requires : tie.Need-parse-edges-requires
 parse-edges-requires c κs = search needs
@@ -30,12 +30,16 @@ enum-known-found-2 : tie.Need-enum-known-found-2
 enum-known-found-2 c = search needs
 
 returns-2 : tie.Need-returns-2
-unfolding nodesParsed
-returns-2 c = simp (sym (c .before .before .before .before .before .before .before .phases-or .ensures .0), sym (c .before .before .before .before .before .before .nodes .ensures) ∙ c .before .before .before .before .found .given .1, sym (c .before .before .phases-or2 .ensures .0), le-leb _ _ (c .before .if1 .left)) (c .parse-edges .ensures)
+returns-2 c =
+    let f = c .before .before .before .before in
+    let n = f .before .before in
+    nodes-enough _ _ _ _ _ _ (n .before .phases-or .ensures .0) (n .nodes .ensures) (f .found .given .1)
+    (c .before .before .phases-or2 .ensures .0) (c .before .if1 .left) (c .parse-edges .ensures)
 
 returns-3 : tie.Need-returns-3
-unfolding nodesParsed
-returns-3 c = simp (sym (c .before .before .before .before .phases-or .ensures .0), sym (c .before .before .before .nodes .ensures) ∙ c .before .found2 .given .1)
+returns-3 c =
+    let n = c .before .before .before in
+    nodes-refused _ _ _ _ _ _ (n .before .phases-or .ensures .0) (n .nodes .ensures) (c .before .found2 .given .1)
 
 pub parse-nodes-spec : {M : Type 1} → statement M
 parse-nodes-spec =

@@ -1,10 +1,11 @@
--- `parsing::parse_start` meets its contract, by the tests passed.
+-- `parsing::parse_start` meets its contract: its record is tested, then where its expression ends picks the case.
 -- Assumes nothing.
 use native.Mathlib.Omega.{arith}
-use borrow.Author.Tests.{le-leb, lt-leb, not-true, not-false}
-use mathlib.Core.Path.{sym, _∙_}
+use borrow.Author.Tests.{lt-leb}
 use Rattle.parsing.specs.Outline.{startParsed}
+use Rattle.truths.proofs.Laws.Answer.{unless-left}
 use Rattle.sections.proofs.Laws.Section.{kind-here}
+use Rattle.parsing.proofs.Steps.Outline.{start-unnamed, start-field, start-ends, start-refused}
 use borrow.Author.Needs.{needs}
 use Rattle.parsing.proofs.parse_start.Statement.{statement}
 use Rattle.parsing.proofs.parse_start.Tie as tie
@@ -17,24 +18,24 @@ kind-is-requires : tie.Need-kind-is-requires
 kind-is-requires c κs = search needs
 
 returns-2 : tie.Need-returns-2
-unfolding startParsed
-returns-2 c = simp (le-leb _ _ (c .before .before .if1 .left), sym (c .before .kind-is .ensures) ∙ not-true _ (c .if2 .taken))
+returns-2 c = start-unnamed _ _ _ (c .before .before .if1 .left) (c .before .kind-is .ensures) (c .if2 .taken)
 
 mul-zeros : tie.Need-mul-zeros
-mul-zeros c = omega (arith, kind-here _ _ _ (sym (c .before .kind-is .ensures) ∙ not-false _ (c .if2 .left)))
+mul-zeros c = omega (arith, kind-here _ _ _ (unless-left (c .before .kind-is .ensures) (c .if2 .left)))
 
 add-zeros : tie.Need-add-zeros
-add-zeros c = omega (arith, kind-here _ _ _ (sym (c .before .kind-is .ensures) ∙ not-false _ (c .if2 .left)))
+add-zeros c = omega (arith, kind-here _ _ _ (unless-left (c .before .kind-is .ensures) (c .if2 .left)))
 
 zeros-requires : tie.Need-zeros-requires
-zeros-requires c κs = omega (arith, kind-here _ _ _ (sym (c .before .kind-is .ensures) ∙ not-false _ (c .if2 .left)))
+zeros-requires c κs = omega (arith, kind-here _ _ _ (unless-left (c .before .kind-is .ensures) (c .if2 .left)))
 
 returns-3 : tie.Need-returns-3
-unfolding startParsed
-returns-3 c = simp (le-leb _ _ (c .before .before .before .before .if1 .left), sym (c .before .before .before .kind-is .ensures) ∙ not-false _ (c .before .before .if2 .left), sym (c .before .zeros .ensures) ∙ not-true _ (c .if3 .taken))
+returns-3 c =
+    let n = c .before .before .before in
+    start-field _ _ _ (n .before .if1 .left) (n .kind-is .ensures) (c .before .before .if2 .left) (c .before .zeros .ensures) (c .if3 .taken)
 
 add-walk : tie.Need-add-walk
-add-walk c = omega (arith, kind-here _ _ _ (sym (c .before .before .before .kind-is .ensures) ∙ not-false _ (c .before .before .if2 .left)))
+add-walk c = let i = c .before .before in omega (arith, kind-here _ _ _ (unless-left (i .before .kind-is .ensures) (i .if2 .left)))
 
 walk-requires : tie.Need-walk-requires
 walk-requires c κs = search needs
@@ -49,12 +50,20 @@ enum-known-found-2 : tie.Need-enum-known-found-2
 enum-known-found-2 c = search needs
 
 returns-4 : tie.Need-returns-4
-unfolding startParsed
-returns-4 c = simp (le-leb _ _ (c .before .before .before .before .before .before .before .before .before .if1 .left), sym (c .before .before .before .before .before .before .before .before .kind-is .ensures) ∙ not-false _ (c .before .before .before .before .before .before .before .if2 .left), sym (c .before .before .before .before .before .before .zeros .ensures) ∙ not-false _ (c .before .before .before .before .before .if3 .left), sym (c .before .before .before .before .walk .ensures) ∙ c .before .before .found .given .1) (c .parse-transitions .ensures)
+returns-4 c =
+    let w = c .before .before .before .before in
+    let z = w .before .before in
+    let n = z .before .before in
+    start-ends _ _ _ (n .before .if1 .left) (n .kind-is .ensures) (z .before .if2 .left) (z .zeros .ensures) (w .before .if3 .left) (w .walk .ensures)
+    (c .before .before .found .given .1) (c .parse-transitions .ensures)
 
 returns-5 : tie.Need-returns-5
-unfolding startParsed
-returns-5 c = simp (le-leb _ _ (c .before .before .before .before .before .before .before .before .if1 .left), sym (c .before .before .before .before .before .before .before .kind-is .ensures) ∙ not-false _ (c .before .before .before .before .before .before .if2 .left), sym (c .before .before .before .before .before .zeros .ensures) ∙ not-false _ (c .before .before .before .before .if3 .left), sym (c .before .before .before .walk .ensures) ∙ c .before .found2 .given .1)
+returns-5 c =
+    let w = c .before .before .before in
+    let z = w .before .before in
+    let n = z .before .before in
+    start-refused _ _ _ (n .before .if1 .left) (n .kind-is .ensures) (z .before .if2 .left) (z .zeros .ensures) (w .before .if3 .left) (w .walk .ensures)
+    (c .before .found2 .given .1)
 
 pub parse-start-spec : {M : Type 1} → statement M
 parse-start-spec =

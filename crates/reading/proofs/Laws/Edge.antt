@@ -115,12 +115,12 @@ module _ (file : List ℕ) (o : Outline) (r : Stages file o) where
 
     -- two edges from one node: of one transition both are single or both double, and of two double ones the transition is one
     agree : (i j : ℕ) → i < o .edges → j < o .edges → fieldB file (o .edge + i) ≡ fieldB file (o .edge + j) → Agree (o .edge + i) (o .edge + j)
-    agree i j l m b = by (ltb i j) (ltb j i) refl refl
+    agree i j l m b = by-order (ltb i j) (ltb j i) refl refl
       where
-        by : (p q : Bool) → ltb i j ≡ p → ltb j i ≡ q → Agree (o .edge + i) (o .edge + j)
-        by true q is it = agree-later i j (ltb-true _ _ is) m b
-        by false true is it = let g = agree-later j i (ltb-true _ _ it) l (sym b) in (λ a. sym (g .0 (sym a)), λ d e. sym (g .1 e d))
-        by false false is it =
+        by-order : (p q : Bool) → ltb i j ≡ p → ltb j i ≡ q → Agree (o .edge + i) (o .edge + j)
+        by-order true q is it = agree-later i j (ltb-true _ _ is) m b
+        by-order false true is it = let g = agree-later j i (ltb-true _ _ it) l (sym b) in (λ a. sym (g .0 (sym a)), λ d e. sym (g .1 e d))
+        by-order false false is it =
             let z : i ≡ j = let x = ltb-false i j is in let y = ltb-false j i it in omega arith in
             (λ a. rw z, λ d e. rw z)
 

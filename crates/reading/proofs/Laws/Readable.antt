@@ -13,15 +13,15 @@ use mathlib.Core.Path.{_≡_, refl, sym, ap, _∙_}
 use mathlib.Core.Logic.{_⊎_, inl, inr}
 use mathlib.Core.Bool.{Bool, true, false, cond, _&&_, _||_, and-eq-true-iff}
 use mathlib.Core.List.{List}
-use Prim.Native.Nat.{ℕ, _+_, _*_, _/_, _%_, _<_, _≤_}
+use Prim.Native.Nat.{ℕ, _+_, _/_, _%_, _<_, _≤_}
 use native.Mathlib.Omega.{arith}
 use borrow.Author.Tests.{eq-eqb, eqb-true}
 use lib.ListN.{length, getD}
-use lib.Dec.{leb, eqb}
+use lib.Dec.{eqb}
 use lib.Signed.{_≤ℤ_}
 use Rattle.records.specs.declared.walk.Walked.{Walked}
 use Rattle.parsing.specs.declared.Outline.{Outline}
-use Rattle.records.specs.Record.{fieldA, fieldB, fieldC, fieldD, valueB, valueC, zerosOf}
+use Rattle.records.specs.Record.{fieldA, fieldB, fieldC, fieldD, valueB, valueC}
 use Rattle.records.specs.Walk.{inSequence}
 use Rattle.sections.specs.Section.{noFields, propertyFields, expressionsOf, phasesOr, transitionOf, nodeOf, nodesOf}
 use Rattle.records.specs.Place.{placeOf, placesOf}
@@ -30,7 +30,9 @@ use Rattle.sections.proofs.Laws.Section.{items-most}
 use Rattle.parsing.proofs.Laws.Outline.{Parses}
 use Rattle.parsing.proofs.Laws.Parsed as parsed
 use Rattle.reading.specs.declared.Reading.{Reading}
-use Rattle.reading.specs.States.{statesOf, productOf}
+use Rattle.states.specs.State.{lowsOf, highsOf}
+use Rattle.states.specs.Number.{countOf}
+use Rattle.reading.specs.States.{statesOf}
 use Rattle.reading.specs.Edge.{diagram, transitionAt, justOf, OutlineFits}
 use Rattle.reading.specs.Read.{readOf}
 use Rattle.reading.specs.Readable.{Start, Transition, PropertyExpression, Node, Edge, DoubleTransition}
@@ -45,6 +47,11 @@ one-or-three : (a : ℕ) (b c : Bool) → eqb a 1 ≡ b → eqb a 3 ≡ c → (b
 one-or-three a true c is it e = inl (eqb-true _ _ is)
 one-or-three a false true is it e = inr (eqb-true _ _ it)
 one-or-three a false false is it e = let z : _≡_ {A = ℕ} 0 1 = cc in absurd (omega arith)
+
+-- a property's kind, from the test of its fields: the others, x and y, say nothing of it
+kind-by : (a : ℕ) (b x y : Bool) → eqb a 2 ≡ b → cond b x ((eqb a 1 || eqb a 3) && y) ≡ true → (a ≡ 2) ⊎ ((a ≡ 1) ⊎ (a ≡ 3))
+kind-by a true x y is e = inl (eqb-true _ _ is)
+kind-by a false x y is e = inr (one-or-three a (eqb a 1) (eqb a 3) refl refl (and-eq-true-iff (eqb a 1 || eqb a 3) y .0 e .0))
 
 module _ (file : List ℕ) (o : Outline) (r : readOf file ≡ Reading.Readable o) where
   stages : Stages file o
@@ -79,7 +86,8 @@ module _ (file : List ℕ) (o : Outline) (r : readOf file ≡ Reading.Readable o
   phases w =
       let least : fieldB file (o .property) ≤ o .nodes = simp (eq-eqb _ _ w) at (parses .enough) in
       let most : o .nodes ≤ 0 + fieldB file (o .property) =
-      items-most file 0x06 (noFields file) (nodeOf file (o .vars)) (o .nodes) (o .edge) (fieldB file (o .property)) 0 (o .node) (simp (eq-eqb _ _ w) at (parses .nodes)) in
+      items-most file 0x06 (noFields file) (nodeOf file (o .vars)) (o .nodes) (o .edge) (fieldB file (o .property)) 0 (o .node)
+      (simp (eq-eqb _ _ w) at (parses .nodes)) in
       omega arith
 
   pub edges-within : (o .edges ≤ 512) × (length file / 8 ≡ o .edge + o .edges)
@@ -87,31 +95,24 @@ module _ (file : List ℕ) (o : Outline) (r : readOf file ≡ Reading.Readable o
 
   pub property-kind : (diagram file o ≡ 2) ⊎ ((diagram file o ≡ 1) ⊎ (diagram file o ≡ 3))
   unfolding propertyFields
-  property-kind = by (eqb (diagram file o) 2) refl (parses .property-right)
-    where
-      by : (b : Bool) → eqb (diagram file o) 2 ≡ b
-          → cond b (leb 1 (fieldB file (o .property)) && leb (fieldB file (o .property)) 32 && zerosOf file (8 * o .property + 4) 4)
-          ((eqb (diagram file o) 1 || eqb (diagram file o) 3) && zerosOf file (8 * o .property + 2) 6) ≡ true
-          → (diagram file o ≡ 2) ⊎ ((diagram file o ≡ 1) ⊎ (diagram file o ≡ 3))
-      by true is e = inl (eqb-true _ _ is)
-      by false is e =
-          inr (one-or-three (diagram file o) (eqb (diagram file o) 1) (eqb (diagram file o) 3) refl refl (and-eq-true-iff (eqb (diagram file o) 1 || eqb (diagram file o) 3) (zerosOf file (8 * o .property + 2) 6) .0 e .0))
+  property-kind = kind-by (diagram file o) (eqb (diagram file o) 2) _ _ refl (parses .property-right)
 
   -- ---- ranges and states
   pub variable-range : (v : ℕ) → v < o .vars → valueB file v ≤ℤ valueC file v
   variable-range = parsed.variable-range file o parses
 
-  pub states-within : (1 ≤ productOf file (o .vars) 0) × (productOf file (o .vars) 0 ≤ 1048576)
-  states-within =
-      let s = states-most file (o .vars) (stages .states .end) (stages .states .is) in
-      let same = s .0 in
-      let above = s .1 in
-      let below = s .2 in
-      (omega arith, omega arith)
+  abbrev states : ℕ
+  states = countOf (lowsOf file (o .vars)) (highsOf file (o .vars))
+
+  states-counted : (states ≡ stages .states .end) × (1 ≤ stages .states .end) × (stages .states .end ≤ 1048576)
+  states-counted = states-most file (o .vars) (stages .states .end) (variables-within .1) (stages .states .is)
+
+  pub states-within : (1 ≤ states) × (states ≤ 1048576)
+  states-within = rw (states-counted .0) (states-counted .1, states-counted .2)
 
   -- so that is what `states` answers
-  pub states-end : statesOf file (o .vars) 0 1 ≡ Walked.End (productOf file (o .vars) 0)
-  states-end = stages .states .is ∙ ap Walked.End (sym (states-most file (o .vars) (stages .states .end) (stages .states .is) .0))
+  pub states-end : statesOf file (o .vars) 0 1 ≡ Walked.End states
+  states-end = stages .states .is ∙ ap Walked.End (sym (states-counted .0))
 
   -- ---- expressions
   pub start : Start file o
@@ -127,7 +128,8 @@ module _ (file : List ℕ) (o : Outline) (r : readOf file ≡ Reading.Readable o
   node = scan.node-scanned file o stages
 
   -- the tables of places have them
-  pub transition-place : (t : ℕ) (l : t < o .transitions) → getD (placesOf (transitionOf file (o .vars)) (o .transitions) (o .transition)) t 0 ≡ transition t l .place
+  pub transition-place : (t : ℕ) (l : t < o .transitions)
+      → getD (placesOf (transitionOf file (o .vars)) (o .transitions) (o .transition)) t 0 ≡ transition t l .place
   transition-place t l =
       let m = transitions-within in
       places-nth (transitionOf file (o .vars)) (o .transitions) (o .transition) t (omega arith) l ∙ ap placeOf (transition t l .reached)
@@ -158,6 +160,7 @@ module _ (file : List ℕ) (o : Outline) (r : readOf file ≡ Reading.Readable o
   pub double-transition : diagram file o ≡ 3 → (n : ℕ) → 1 ≤ n → n < o .nodes → DoubleTransition file o n
   double-transition = edges.double-transition file o stages
 
-  pub just-place : (t place : ℕ) → inSequence (transitionOf file (o .vars)) t (o .transition) ≡ Walked.End place → justOf file o t ≡ true → fieldA file place ≡ 1
+  pub just-place : (t place : ℕ) → inSequence (transitionOf file (o .vars)) t (o .transition) ≡ Walked.End place → justOf file o t ≡ true
+      → fieldA file place ≡ 1
   unfolding justOf transitionAt
   just-place t place is j = eqb-true _ _ (rw is at j)

@@ -18,25 +18,27 @@ use Rattle.sections.proofs.Laws.Section.{transitions-bound}
 use Rattle.records.proofs.Laws.Place.{places-nth}
 use Rattle.records.specs.Walk.{refuseFirst}
 use Rattle.truths.specs.Search.{any}
-use Rattle.reading.specs.Edge.{transitionAt, single, diagram, descending, justOf, conflictOf, chainRuleOf, ruleOf, doubledOf, doublesOf, OutlineFits, EdgeFits}
+use Rattle.reading.specs.Edge.{transitionAt, single, diagram, descending, justOf, conflictOf, chainRuleOf, ruleOf, doubledOf, doublesOf}
+use Rattle.reading.specs.Edge.{OutlineFits, EdgeFits}
 
 -- ---- where a transition stands
 module _ (file : List ℕ) (o : Outline) (t : ℕ) where
   pub transition-within : o .transition ≤ length file / 8 → transitionAt file o t ≤ length file / 8
   unfolding transitionAt
-  transition-within l = by (inSequence (transitionOf file (o .vars)) t (o .transition)) refl
+  transition-within l = place-within (inSequence (transitionOf file (o .vars)) t (o .transition)) refl
     where
-      by : (w : Walked) → inSequence (transitionOf file (o .vars)) t (o .transition) ≡ w → placeOf w ≤ length file / 8
-      by (Walked.End end) is = transitions-bound file (o .vars) t (o .transition) end l is
-      by (Walked.Refused number place) is = omega arith
+      place-within : (w : Walked) → inSequence (transitionOf file (o .vars)) t (o .transition) ≡ w → placeOf w ≤ length file / 8
+      place-within (Walked.End end) is = transitions-bound file (o .vars) t (o .transition) end l is
+      place-within (Walked.Refused number place) is = omega arith
 
-  pub transition-entry : (places : List ℕ) → places ≡ placesOf (transitionOf file (o .vars)) (o .transitions) (o .transition) → o .transitions ≤ 32 → t < o .transitions
-      → getD places t 0 ≡ transitionAt file o t
+  pub transition-entry : (places : List ℕ) → places ≡ placesOf (transitionOf file (o .vars)) (o .transitions) (o .transition)
+      → o .transitions ≤ 32 → t < o .transitions → getD places t 0 ≡ transitionAt file o t
   unfolding transitionAt
   transition-entry places is l m = rw is (places-nth (transitionOf file (o .vars)) (o .transitions) (o .transition) t (omega arith) m)
 
 -- an edge that is left, with `left` edges from `at` on
-pub edge-fits : (file : List ℕ) (o : Outline) (places : List ℕ) (at left : ℕ) → OutlineFits file o → places ≡ placesOf (transitionOf file (o .vars)) (o .transitions) (o .transition)
+pub edge-fits : (file : List ℕ) (o : Outline) (places : List ℕ) (at left : ℕ) → OutlineFits file o
+    → places ≡ placesOf (transitionOf file (o .vars)) (o .transitions) (o .transition)
     → at + left ≡ o .edge + o .edges → o .edge ≤ at → 0 < left → EdgeFits file o places at
 edge-fits file o places at left f p e l m =
     let h = f .edges-here in
@@ -105,6 +107,7 @@ module _ (file : List ℕ) (o : Outline) (at : ℕ) where
       unfolding ruleOf
       rule-chain w = rw (ne-eqb _ _ i, f, ne-eqb _ _ w)
 
+module _ (file : List ℕ) (o : Outline) where
   pub doubles-none : (diagram file o ≡ 3 → ⊥) → doublesOf file o ≡ Walked.End 0
   unfolding doublesOf
   doubles-none c = rw (ne-eqb _ _ c)

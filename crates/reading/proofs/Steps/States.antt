@@ -14,13 +14,14 @@ unfolding statesOf
 states-none file zero at product h = refl
 states-none file (suc left) at product h = absurd (omega arith)
 
-module _ (file : List ℕ) (at product next : ℕ) (is : next ≡ product * sizeAt file at) where
-  pub states-over : (left : ℕ) → 0 < left → 1048576 < next → statesOf file left at product ≡ Refused 7 at
+module _ (file : List ℕ) (at product size : ℕ) (is : size ≡ sizeAt file at) where
+  pub states-over : (left : ℕ) → 0 < left → 1048576 < product * size → statesOf file left at product ≡ Refused 7 at
   unfolding statesOf
   states-over zero h o = absurd (omega arith)
   states-over (suc left) h o = rw (← is, lt-leb _ _ o)
 
-  pub states-step : (left : ℕ) → 0 < left → next ≤ 1048576 → statesOf file left at product ≡ statesOf file (left - 1) (at + 1) next
+  pub states-step : (left : ℕ) → 0 < left → product * size ≤ 1048576
+      → statesOf file left at product ≡ statesOf file (left - 1) (at + 1) (product * size)
   unfolding statesOf
   states-step zero h o = absurd (omega arith)
   states-step (suc left) h o = rw (← is, le-leb _ _ o, sub-one)

@@ -1,4 +1,4 @@
--- `reading::read` meets its contract, by what `parse` finds.
+-- `reading::read`, by what `parse` finds: a refusal stands, and an outline fits the file, so that `read_parsed` can go on.
 -- Assumes nothing.
 use mathlib.Core.Path.{sym, _∙_}
 use Rattle.parsing.proofs.Laws.Outline.{parses}

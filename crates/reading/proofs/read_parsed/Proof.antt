@@ -1,10 +1,31 @@
--- `reading::read_parsed` meets its contract: each stage refuses, or the next one decides.
+-- `reading::read_parsed`: each stage refuses, or it ends and the next one decides.
 -- Assumes nothing.
 use mathlib.Core.Path.{sym, _∙_}
+use denote.Ref.{now}
+use Rattle.intervals.specs.Interval.{intervalsOf}
+use Rattle.reading.specs.States.{statesOf}
+use Rattle.reading.specs.Edge.{rulesOf}
 use Rattle.reading.specs.Read.{stagesRead}
+use Rattle.reading.proofs.Laws.Stage.{Ends}
 use borrow.Author.Needs.{needs}
 use Rattle.reading.proofs.read_parsed.Statement.{statement}
 use Rattle.reading.proofs.read_parsed.Tie as tie
+
+-- ---- the stages that refused nothing
+states-ended : (c : tie.After-enum-told)
+    → let args = c .before .before .before .before .args in
+    Ends (statesOf (now (args .file)) (args .outline .vars) 0 1)
+states-ended c = record { end = _; is = sym (c .before .before .states .ensures) ∙ c .enum-told .given .1 }
+
+intervals-ended : (c : tie.After-enum-told2)
+    → let args = c .before .before .before .before .before .before .before .args in
+    Ends (intervalsOf (now (args .file)))
+intervals-ended c = record { end = _; is = sym (c .before .before .intervals .ensures) ∙ c .enum-told2 .given .1 }
+
+rules-ended : (c : tie.After-enum-told3)
+    → let args = c .before .before .before .before .before .before .before .before .before .before .args in
+    Ends (rulesOf (now (args .file)) (args .outline))
+rules-ended c = record { end = _; is = sym (c .before .before .rules .ensures) ∙ c .enum-told3 .given .1 }
 
 states-requires : tie.Need-states-requires
 states-requires c κs = search needs
@@ -27,7 +48,9 @@ enum-known-intervals c = search needs
 
 returns-2 : tie.Need-returns-2
 unfolding stagesRead
-returns-2 c = simp (sym (c .before .before .before .before .before .before .states .ensures) ∙ c .before .before .before .before .enum-told .given .1, sym (c .before .before .before .intervals .ensures) ∙ c .before .intervals2 .given .1)
+returns-2 c =
+    let states = c .before .before .before .before in
+    simp (states-ended states .is, sym (c .before .before .before .intervals .ensures) ∙ c .before .intervals2 .given .1)
 
 enum-told-2 : tie.Need-enum-told-2
 enum-told-2 c = search needs
@@ -40,7 +63,10 @@ enum-known-rules c = search needs
 
 returns-3 : tie.Need-returns-3
 unfolding stagesRead
-returns-3 c = simp (sym (c .before .before .before .before .before .before .before .before .before .states .ensures) ∙ c .before .before .before .before .before .before .before .enum-told .given .1, sym (c .before .before .before .before .before .before .intervals .ensures) ∙ c .before .before .before .before .enum-told2 .given .1, sym (c .before .before .before .rules .ensures) ∙ c .before .rules2 .given .1)
+returns-3 c =
+    let intervals = c .before .before .before .before in
+    let states = intervals .before .before .before in
+    simp (states-ended states .is, intervals-ended intervals .is, sym (c .before .before .before .rules .ensures) ∙ c .before .rules2 .given .1)
 
 enum-told-3 : tie.Need-enum-told-3
 enum-told-3 c = search needs
@@ -53,14 +79,24 @@ enum-known-doubles c = search needs
 
 returns-4 : tie.Need-returns-4
 unfolding stagesRead
-returns-4 c = simp (sym (c .before .before .before .before .before .before .before .before .before .before .before .before .states .ensures) ∙ c .before .before .before .before .before .before .before .before .before .before .enum-told .given .1, sym (c .before .before .before .before .before .before .before .before .before .intervals .ensures) ∙ c .before .before .before .before .before .before .before .enum-told2 .given .1, sym (c .before .before .before .before .before .before .rules .ensures) ∙ c .before .before .before .before .enum-told3 .given .1, sym (c .before .before .before .doubles .ensures) ∙ c .before .doubles2 .given .1)
+returns-4 c =
+    let rules = c .before .before .before .before in
+    let intervals = rules .before .before .before in
+    let states = intervals .before .before .before in
+    let refused = sym (c .before .before .before .doubles .ensures) ∙ c .before .doubles2 .given .1 in
+    simp (states-ended states .is, intervals-ended intervals .is, rules-ended rules .is, refused)
 
 enum-told-4 : tie.Need-enum-told-4
 enum-told-4 c = search needs
 
 returns-5 : tie.Need-returns-5
 unfolding stagesRead
-returns-5 c = simp (sym (c .before .before .before .before .before .before .before .before .before .before .before .states .ensures) ∙ c .before .before .before .before .before .before .before .before .before .enum-told .given .1, sym (c .before .before .before .before .before .before .before .before .intervals .ensures) ∙ c .before .before .before .before .before .before .enum-told2 .given .1, sym (c .before .before .before .before .before .rules .ensures) ∙ c .before .before .before .enum-told3 .given .1, sym (c .before .before .doubles .ensures) ∙ c .enum-told4 .given .1)
+returns-5 c =
+    let rules = c .before .before .before in
+    let intervals = rules .before .before .before in
+    let states = intervals .before .before .before in
+    let ended = sym (c .before .before .doubles .ensures) ∙ c .enum-told4 .given .1 in
+    simp (states-ended states .is, intervals-ended intervals .is, rules-ended rules .is, ended)
 
 pub read-parsed-spec : {M : Type 1} → statement M
 read-parsed-spec =

@@ -1,39 +1,46 @@
 -- Laws of the classification of kinds.
+--     operands-most     no form has more than two operands
 --     form-variable     only kind 11 is a variable, so its record names one of the file's
 -- Assumes nothing.
-use mathlib.Core.Path.{_≡_, refl}
-use mathlib.Core.Bool.{Bool, true, false, cond, _&&_, and-eq-true-iff}
+use mathlib.Core.Path.{_≡_}
+use mathlib.Core.Bool.{true, cond, _&&_, and-eq-true-iff}
 use mathlib.Core.List.{List}
-use Prim.Native.Nat.{ℕ, _*_, _+_, _<_}
+use Prim.Native.Nat.{ℕ, _*_, _+_, _<_, _≤_}
 use native.Mathlib.Omega.{arith}
 use borrow.Author.Tests.{ltb-true, leb-true, eq-eqb, ne-eqb}
 use lib.Dec.{ltb, leb}
+use Rattle.integers.proofs.Laws.Parts.{by-test}
 use Rattle.records.specs.declared.kinds.Form.{Form}
 use Rattle.records.specs.declared.kinds.Form.the-variants.{Constant, Variable, Arithmetic, Indicator, Literal, Negation, Connective, Comparison, Unfit}
 use Rattle.records.specs.Record.{kindAt, fieldA, zerosOf}
-use Rattle.records.specs.Kind.{within, formOf, formAt}
+use Rattle.records.specs.Kind.{within, formOf, signatureOf, formAt}
 use Rattle.records.specs.Walk.{expressionFields}
+
+pub operands-most : (f : Form) → signatureOf f .operands ≤ 2
+unfolding signatureOf
+operands-most Constant = omega arith
+operands-most Variable = omega arith
+operands-most Arithmetic = omega arith
+operands-most Indicator = omega arith
+operands-most Literal = omega arith
+operands-most Negation = omega arith
+operands-most Connective = omega arith
+operands-most Comparison = omega arith
+operands-most Unfit = omega arith
 
 -- a form that is not the one hit is the one missed
 missed : (lo hi kind : ℕ) (hit miss f : Form) → (hit ≡ f → ⊥) → within lo hi kind hit miss ≡ f → miss ≡ f
 unfolding within
-missed lo hi kind hit miss f n e = go (leb lo kind && leb kind hi) e
-  where
-    go : (b : Bool) → cond b hit miss ≡ f → miss ≡ f
-    go true q = absurd (n q)
-    go false q = q
+missed lo hi kind hit miss f n e = by-test (leb lo kind && leb kind hi) (λ b. cond b hit miss ≡ f → miss ≡ f) (λ t q. absurd (n q)) (λ t q. q) e
 
 within-one : (k kind : ℕ) (hit miss f : Form) → (miss ≡ f → ⊥) → within k k kind hit miss ≡ f → kind ≡ k
 unfolding within
-within-one k kind hit miss f n e = go (leb k kind && leb kind k) refl e
-  where
-    go : (b : Bool) → (leb k kind && leb kind k) ≡ b → cond b hit miss ≡ f → kind ≡ k
-    go true t q =
-        let p = and-eq-true-iff (leb k kind) (leb kind k) .0 t in
-        let x = leb-true k kind (p .0) in
-        let y = leb-true kind k (p .1) in
-        omega arith
-    go false t q = absurd (n q)
+within-one k kind hit miss f n e =
+    by-test (leb k kind && leb kind k) (λ b. cond b hit miss ≡ f → kind ≡ k)
+    (λ t q.
+    let p = and-eq-true-iff (leb k kind) (leb kind k) .0 t in
+    omega (arith, leb-true k kind (p .0), leb-true kind k (p .1)))
+    (λ t q. absurd (n q)) e
 
 module _ (kind : ℕ) where
   -- the forms behind the variable's

@@ -38,5 +38,6 @@ walk-span file vars zero want at end e = absurd (walk-deepest file vars want at 
 walk-span file vars (suc levels) want at end e =
     let o = walk-opens file vars levels want at end e in
     let z : getD (drop (8 * at) file) 0 0 ≡ getD file (8 * at) 0 = getD-drop (8 * at) file 0 0 ∙ rw add-zero in
-    let s = signatureAt file at in
-    rw z (turn-spans file (walkOf file vars levels (s .over)) (span levels) (λ i x. walk-span file vars levels (s .over) i x) (s .operands) at 1 end (o .operands))
+    let over = signatureAt file at .over in
+    let n = signatureAt file at .operands in
+    rw z (turn-spans file (walkOf file vars levels over) (span levels) (walk-span file vars levels over) n at 1 end (o .operands))

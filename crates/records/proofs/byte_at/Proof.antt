@@ -1,4 +1,4 @@
--- `records::byte_at` meets its contract, by the test passed.
+-- `records::byte_at` meets its contract: past the list's end `getD` gives its default.
 -- Assumes nothing.
 use mathlib.Core.Path.{sym}
 use lib.ListN.{List·getD-eq-default}

@@ -1,4 +1,4 @@
--- `records::kind_is` meets its contract, by the test passed.
+-- `records::kind_is` meets its contract: the kind byte is compared where the record is there.
 -- Assumes nothing.
 use borrow.Author.Tests.{lt-ltb, le-ltb}
 use Rattle.records.specs.Record.{kindIs}

@@ -1,4 +1,4 @@
--- `records::same_bytes` meets its contract: what is left to be compared says what the whole does.
+-- `records::same_bytes` meets its contract. The loop's invariant: what is left to be compared says what the whole does, and lies in the file.
 -- Assumes nothing.
 use native.Mathlib.Omega.{arith}
 use borrow.Author.Tests.{eq-eqb, ne-eqb}
@@ -26,7 +26,9 @@ shared-slice-read-if1-2 : tie.Need-shared-slice-read-if1-2 Inv-loop μ-loop
 shared-slice-read-if1-2 c = omega arith
 
 returns : tie.Need-returns Inv-loop μ-loop
-returns c = sym (c .before .before .before .before .loop .inv .0 ∙ same-step _ _ _ _ (c .before .before .before .loop-test .taken) ∙ simp (ne-eqb _ _ (c .if1 .taken)))
+returns c =
+    let t = c .before .before .before in
+    sym (t .before .loop .inv .0 ∙ same-step _ _ _ _ (t .loop-test .taken) ∙ simp (ne-eqb _ _ (c .if1 .taken)))
 
 add-k : tie.Need-add-k Inv-loop μ-loop
 add-k c = omega arith
@@ -41,7 +43,9 @@ loop-less : tie.Need-loop-less Inv-loop μ-loop
 loop-less c = omega arith
 
 loop-again : tie.Need-loop-again Inv-loop μ-loop
-loop-again c = (c .before .before .before .before .loop .inv .0 ∙ same-step _ _ _ _ (c .before .before .before .loop-test .taken) ∙ simp (eq-eqb _ _ (c .if1 .left)), omega arith)
+loop-again c =
+    let t = c .before .before .before in
+    (t .before .loop .inv .0 ∙ same-step _ _ _ _ (t .loop-test .taken) ∙ simp (eq-eqb _ _ (c .if1 .left)), omega arith)
 
 returns-2 : tie.Need-returns-2 Inv-loop μ-loop
 returns-2 c = sym (c .before .loop .inv .0 ∙ same-none _ _ _ _ (c .loop-test .left))

@@ -26,10 +26,14 @@ mul-result : tie.Need-mul-result
 mul-result c = omega (arith, c .shared-slice-known2 .given (c .before .before .args .i + 1))
 
 add-result-2 : tie.Need-add-result-2
-add-result-2 c = omega (arith, c .before .shared-slice-known .given (c .before .before .args .i), c .shared-slice-known2 .given (c .before .before .args .i + 1))
+add-result-2 c =
+    let i = c .before .before .args .i in
+    omega (arith, c .before .shared-slice-known .given i, c .shared-slice-known2 .given (i + 1))
 
 returns : tie.Need-returns
-returns c = (refl, omega (arith, c .before .shared-slice-known .given (c .before .before .args .i), c .shared-slice-known2 .given (c .before .before .args .i + 1)))
+returns c =
+    let i = c .before .before .args .i in
+    (refl, omega (arith, c .before .shared-slice-known .given i, c .shared-slice-known2 .given (i + 1)))
 
 pub word-at-spec : {M : Type 1} → statement M
 word-at-spec =

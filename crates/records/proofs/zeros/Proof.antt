@@ -1,4 +1,4 @@
--- `records::zeros` meets its contract. What is left to be tested says what the whole does, as each byte passed is zero.
+-- `records::zeros` meets its contract. The loop's invariant: what is left to be tested says what the whole does, as each byte passed is zero.
 -- Assumes nothing.
 use borrow.Author.Tests.{eq-eqb, ne-eqb}
 use mathlib.Core.Path.{_≡_, refl, sym, _∙_}

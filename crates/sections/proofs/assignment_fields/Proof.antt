@@ -1,4 +1,4 @@
--- `sections::assignment_fields` meets its contract, by the test passed.
+-- `sections::assignment_fields` meets its contract: the rest is tested where a names a variable.
 -- Assumes nothing.
 use native.Mathlib.Omega.{arith}
 use borrow.Author.Tests.{lt-ltb, le-ltb}

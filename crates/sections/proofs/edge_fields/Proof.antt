@@ -1,4 +1,4 @@
--- `sections::edge_fields` meets its contract, by the tests passed.
+-- `sections::edge_fields` meets its contract: at each return the fields tested so far, a, b, c and d in turn, decide `edgeFields`.
 -- Assumes nothing.
 use native.Mathlib.Omega.{arith}
 use borrow.Author.Tests.{lt-ltb, le-ltb, le-leb, lt-leb}
@@ -43,7 +43,15 @@ word-at-requires-2 c κs = search needs
 
 returns-3 : tie.Need-returns-3
 unfolding edgeFields
-returns-3 c = simp (lt-ltb _ _ (c .before .before .before .before .if1 .left), sym (c .before .before .before .word-at .ensures .0), lt-ltb _ _ (c .before .before .if2 .left), sym (c .before .word-at2 .ensures .0), le-ltb _ _ (c .if3 .taken))
+returns-3 c =
+    let f = c .before .before in
+    simp (
+      lt-ltb _ _ (f .before .before .if1 .left),
+      sym (f .before .word-at .ensures .0),
+      lt-ltb _ _ (f .if2 .left),
+      sym (c .before .word-at2 .ensures .0),
+      le-ltb _ _ (c .if3 .taken),
+    )
 
 add-if4 : tie.Need-add-if4
 add-if4 c = search needs
@@ -53,7 +61,17 @@ shared-slice-read-if4 c = search needs
 
 returns-4 : tie.Need-returns-4
 unfolding edgeFields
-returns-4 c = simp (lt-ltb _ _ (c .before .before .before .before .before .before .if1 .left), sym (c .before .before .before .before .before .word-at .ensures .0), lt-ltb _ _ (c .before .before .before .before .if2 .left), sym (c .before .before .before .word-at2 .ensures .0), lt-ltb _ _ (c .before .before .if3 .left), lt-leb _ _ (c .if4 .taken))
+returns-4 c =
+    let t = c .before .before in
+    let f = t .before .before in
+    simp (
+      lt-ltb _ _ (f .before .before .if1 .left),
+      sym (f .before .word-at .ensures .0),
+      lt-ltb _ _ (f .if2 .left),
+      sym (t .before .word-at2 .ensures .0),
+      lt-ltb _ _ (t .if3 .left),
+      lt-leb _ _ (c .if4 .taken),
+    )
 
 add-zeros : tie.Need-add-zeros
 add-zeros c = search needs
@@ -63,7 +81,18 @@ zeros-requires c κs = search needs
 
 returns-5 : tie.Need-returns-5
 unfolding edgeFields
-returns-5 c = simp (lt-ltb _ _ (c .before .before .before .before .before .before .before .if1 .left), sym (c .before .before .before .before .before .before .word-at .ensures .0), lt-ltb _ _ (c .before .before .before .before .before .if2 .left), sym (c .before .before .before .before .word-at2 .ensures .0), lt-ltb _ _ (c .before .before .before .if3 .left), le-leb _ _ (c .before .if4 .left)) (c .zeros .ensures)
+returns-5 c =
+    let t = c .before .before .before in
+    let f = t .before .before in
+    simp (
+      lt-ltb _ _ (f .before .before .if1 .left),
+      sym (f .before .word-at .ensures .0),
+      lt-ltb _ _ (f .if2 .left),
+      sym (t .before .word-at2 .ensures .0),
+      lt-ltb _ _ (t .if3 .left),
+      le-leb _ _ (c .before .if4 .left),
+    )
+    (c .zeros .ensures)
 
 pub edge-fields-spec : {M : Type 1} → statement M
 edge-fields-spec =

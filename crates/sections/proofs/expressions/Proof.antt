@@ -1,4 +1,4 @@
--- `sections::expressions` meets its contract, by the tests passed.
+-- `sections::expressions` meets its contract: the tests of a pick the case of `expressionsOf`.
 -- Assumes nothing.
 use borrow.Author.Tests.{eq-eqb, ne-eqb}
 use mathlib.Core.Path.{sym}

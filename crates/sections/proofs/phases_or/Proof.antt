@@ -1,4 +1,4 @@
--- `sections::phases_or` meets its contract, by the test passed.
+-- `sections::phases_or` meets its contract: a wait-for's b is two bytes, any other limit is given small.
 -- Assumes nothing.
 use native.Mathlib.Omega.{arith}
 use borrow.Author.Tests.{eq-eqb, ne-eqb}

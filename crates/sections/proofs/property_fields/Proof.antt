@@ -1,4 +1,4 @@
--- `sections::property_fields` meets its contract, by the tests passed.
+-- `sections::property_fields` meets its contract: at each return the tests of a, and of a wait-for's b, pick the case of `propertyFields`.
 -- Assumes nothing.
 use borrow.Author.Tests.{eq-eqb, ne-eqb, le-leb, lt-leb}
 use mathlib.Core.Path.{sym}
@@ -28,7 +28,14 @@ returns c = simp (eq-eqb _ _ (c .before .before .if1 .taken), sym (c .before .wo
 
 returns-2 : tie.Need-returns-2
 unfolding propertyFields
-returns-2 c = simp (eq-eqb _ _ (c .before .before .before .if1 .taken), sym (c .before .before .word-at .ensures .0), le-leb _ _ (c .before .if2 .left), lt-leb _ _ (c .if3 .taken))
+returns-2 c =
+    let w = c .before .before in
+    simp (
+      eq-eqb _ _ (w .before .if1 .taken),
+      sym (w .word-at .ensures .0),
+      le-leb _ _ (c .before .if2 .left),
+      lt-leb _ _ (c .if3 .taken),
+    )
 
 add-zeros : tie.Need-add-zeros
 add-zeros c = search needs
@@ -38,7 +45,15 @@ zeros-requires c κs = search needs
 
 returns-3 : tie.Need-returns-3
 unfolding propertyFields
-returns-3 c = simp (eq-eqb _ _ (c .before .before .before .before .if1 .taken), sym (c .before .before .before .word-at .ensures .0), le-leb _ _ (c .before .before .if2 .left), le-leb _ _ (c .before .if3 .left)) (c .zeros .ensures)
+returns-3 c =
+    let w = c .before .before .before in
+    simp (
+      eq-eqb _ _ (w .before .if1 .taken),
+      sym (w .word-at .ensures .0),
+      le-leb _ _ (c .before .before .if2 .left),
+      le-leb _ _ (c .before .if3 .left),
+    )
+    (c .zeros .ensures)
 
 add-zeros-2 : tie.Need-add-zeros-2
 add-zeros-2 c = search needs
@@ -58,7 +73,14 @@ zeros-requires-3 c κs = search needs
 
 returns-5 : tie.Need-returns-5
 unfolding propertyFields
-returns-5 c = simp (ne-eqb _ _ (c .before .before .before .if1 .left), ne-eqb _ _ (c .before .before .if4 .left), eq-eqb _ _ (c .before .if5 .taken)) (c .zeros3 .ensures)
+returns-5 c =
+    let o = c .before .before in
+    simp (
+      ne-eqb _ _ (o .before .if1 .left),
+      ne-eqb _ _ (o .if4 .left),
+      eq-eqb _ _ (c .before .if5 .taken),
+    )
+    (c .zeros3 .ensures)
 
 returns-6 : tie.Need-returns-6
 unfolding propertyFields

@@ -1,4 +1,4 @@
--- `sections::repeated` meets its contract: the edges left say what all of them do.
+-- `sections::repeated` meets its contract. The loop's invariant: whether one of all edges is the same is whether one of those left is.
 -- Assumes nothing.
 use native.Mathlib.Omega.{arith}
 use mathlib.Core.Path.{refl, sym, _∙_, _≡_}
@@ -7,11 +7,13 @@ use Rattle.sections.specs.Section.{repeatedOf}
 use Rattle.records.specs.Record.{sameBytes}
 use Rattle.truths.specs.Search.{any}
 use Rattle.truths.proofs.Laws.Any.{any-none, any-hit, any-next}
+use Rattle.truths.proofs.Laws.Answer.{if-taken, if-left}
 use Rattle.sections.proofs.repeated.Statement.{statement}
 use Rattle.sections.proofs.repeated.Tie as tie
 
 abbrev Inv-loop : tie.InvT-loop
-Inv-loop file at first n left₀ edge₀ left edge = (repeatedOf file at first n ≡ any (λ e. sameBytes file (8 * e + 1) (8 * at + 1) 5) left edge) × (edge + left ≤ at)
+Inv-loop file at first n left₀ edge₀ left edge =
+    (repeatedOf file at first n ≡ any (λ e. sameBytes file (8 * e + 1) (8 * at + 1) 5) left edge) × (edge + left ≤ at)
 
 abbrev μ-loop : tie.MeasureT-loop
 μ-loop file at first n left₀ edge₀ left edge = left
@@ -36,7 +38,9 @@ same-bytes-requires : tie.Need-same-bytes-requires Inv-loop μ-loop
 same-bytes-requires c κs = omega arith
 
 returns : tie.Need-returns Inv-loop μ-loop
-returns c = sym (c .before .before .before .loop .inv .0 ∙ any-hit _ _ _ (c .before .before .loop-test .taken) (sym (c .before .same-bytes .ensures) ∙ c .if1 .taken))
+returns c =
+    let t = c .before .before in
+    sym (t .before .loop .inv .0 ∙ any-hit _ _ _ (t .loop-test .taken) (if-taken (c .before .same-bytes .ensures) (c .if1 .taken)))
 
 add-edge : tie.Need-add-edge Inv-loop μ-loop
 add-edge c = omega arith
@@ -48,7 +52,9 @@ loop-less : tie.Need-loop-less Inv-loop μ-loop
 loop-less c = omega arith
 
 loop-again : tie.Need-loop-again Inv-loop μ-loop
-loop-again c = (c .before .before .before .loop .inv .0 ∙ any-next _ _ _ (c .before .before .loop-test .taken) (sym (c .before .same-bytes .ensures) ∙ c .if1 .left), omega arith)
+loop-again c =
+    let t = c .before .before in
+    (t .before .loop .inv .0 ∙ any-next _ _ _ (t .loop-test .taken) (if-left (c .before .same-bytes .ensures) (c .if1 .left)), omega arith)
 
 returns-2 : tie.Need-returns-2 Inv-loop μ-loop
 returns-2 c = sym (c .before .loop .inv .0 ∙ any-none _ _ _ (c .loop-test .left))

@@ -1,4 +1,4 @@
--- `sections::transition_fields` meets its contract, by the test passed.
+-- `sections::transition_fields` meets its contract: the rest is tested where a is 0 or 1.
 -- Assumes nothing.
 use borrow.Author.Tests.{le-leb, lt-leb}
 use Rattle.sections.specs.Section.{transitionFields}

@@ -1,10 +1,10 @@
--- `sections::variable_fields` meets its contract: at each return the tests passed decide `variableFields`.
+-- `sections::variable_fields` meets its contract: at each return the tests passed decide `variableFields`, at last that of the range on the numbers
+-- that are read back from their bits.
 -- Assumes nothing.
-use borrow.Author.Tests.{not-true, not-false}
-use mathlib.Core.Path.{sym, _∙_}
 use mir.Syntax.{w16}
 use Rattle.integers.proofs.Laws.Parts.{back}
 use Rattle.sections.specs.Section.{variableFields}
+use Rattle.truths.proofs.Laws.Answer.{unless-taken, unless-left}
 use borrow.Author.Needs.{needs}
 use Rattle.sections.proofs.variable_fields.Statement.{statement}
 use Rattle.sections.proofs.variable_fields.Tie as tie
@@ -20,7 +20,7 @@ zeros-requires c κs = search needs
 
 returns : tie.Need-returns
 unfolding variableFields
-returns c = simp (sym (c .before .zeros .ensures) ∙ not-true _ (c .if1 .taken))
+returns c = simp (unless-taken (c .before .zeros .ensures) (c .if1 .taken))
 
 add-zeros-2 : tie.Need-add-zeros-2
 add-zeros-2 c = search needs
@@ -30,7 +30,9 @@ zeros-requires-2 c κs = search needs
 
 returns-2 : tie.Need-returns-2
 unfolding variableFields
-returns-2 c = simp (sym (c .before .before .before .zeros .ensures) ∙ not-false _ (c .before .before .if1 .left), sym (c .before .zeros2 .ensures) ∙ not-true _ (c .if2 .taken))
+returns-2 c =
+    let z = c .before .before .before in
+    simp (unless-left (z .zeros .ensures) (c .before .before .if1 .left), unless-taken (c .before .zeros2 .ensures) (c .if2 .taken))
 
 add-value-at : tie.Need-add-value-at
 add-value-at c = search needs
@@ -47,8 +49,16 @@ value-at-requires-2 c κs = search needs
 returns-3 : tie.Need-returns-3
 unfolding variableFields
 returns-3 c =
-    rw (back w16 (c .before .value-at .result) (c .before .value-at .ok), back w16 (c .value-at2 .result) (c .value-at2 .ok))
-    (simp (sym (c .before .before .before .before .before .zeros .ensures) ∙ not-false _ (c .before .before .before .before .if1 .left), sym (c .before .before .before .zeros2 .ensures) ∙ not-false _ (c .before .before .if2 .left), c .before .value-at .ensures, c .value-at2 .ensures))
+    let low = c .before .value-at in
+    let high = c .value-at2 in
+    let z = c .before .before .before in
+    rw (back w16 (low .result) (low .ok), back w16 (high .result) (high .ok))
+    (simp (
+      unless-left (z .before .before .zeros .ensures) (z .before .if1 .left),
+      unless-left (z .zeros2 .ensures) (c .before .before .if2 .left),
+      low .ensures,
+      high .ensures,
+    ))
 
 pub variable-fields-spec : {M : Type 1} → statement M
 variable-fields-spec =

@@ -1,13 +1,11 @@
--- `sections::variables` meets its contract: what the items left are says what the whole section is.
+-- `sections::variables` meets its contract. The loop's invariant: the section is what its items from `at` on make it, where at most `left` may follow.
 -- Assumes nothing.
 use native.Mathlib.Omega.{arith}
-use borrow.Author.Tests.{not-true, not-false}
-use mathlib.Core.Path.{refl, sym, _∙_, _≡_}
+use mathlib.Core.Path.{refl, _≡_}
 use Prim.Native.Nat.{_+_}
 use Rattle.sections.specs.Section.{variableFields, itemsOf, variablesOf}
 use Rattle.records.specs.declared.walk.Walked.{Walked}
-use Rattle.sections.proofs.Laws.Section.{kind-here}
-use Rattle.sections.proofs.Steps.Section.{items-stop, items-field, items-over, items-ends}
+use Rattle.sections.proofs.Steps.Section.{found-here, items-stop, items-field, items-over, items-ends}
 use Rattle.sections.proofs.variables.Statement.{statement}
 use Rattle.sections.proofs.variables.Tie as tie
 
@@ -25,16 +23,23 @@ kind-is-requires : tie.Need-kind-is-requires Inv-loop μ-loop
 kind-is-requires c κs = tt
 
 variable-fields-requires : tie.Need-variable-fields-requires Inv-loop μ-loop
-variable-fields-requires c κs = omega (arith, kind-here _ _ _ (sym (c .before .kind-is .ensures) ∙ c .if1 .taken))
+variable-fields-requires c κs = omega (arith, found-here _ _ _ (c .before .kind-is .ensures) (c .if1 .taken))
 
 returns : tie.Need-returns Inv-loop μ-loop
-returns c = sym (c .before .before .before .before .loop .inv ∙ items-field _ _ _ _ _ _ _ (sym (c .before .before .before .kind-is .ensures) ∙ c .before .before .if1 .taken) (sym (c .before .variable-fields .ensures) ∙ not-true _ (c .if2 .taken)))
+returns c =
+    let f = c .before in
+    let k = f .before .before in
+    items-field _ _ _ _ _ _ (k .kind-is .ensures) (f .before .if1 .taken) (f .variable-fields .ensures) _ (k .before .loop .inv) (c .if2 .taken)
 
 returns-2 : tie.Need-returns-2 Inv-loop μ-loop
-returns-2 c = sym (c .before .before .before .before .before .loop .inv ∙ items-over _ _ _ _ _ _ (sym (c .before .before .before .before .kind-is .ensures) ∙ c .before .before .before .if1 .taken) (sym (c .before .before .variable-fields .ensures) ∙ not-false _ (c .before .if2 .left)) _ (c .if3 .taken))
+returns-2 c =
+    let f = c .before .before in
+    let k = f .before .before in
+    items-over _ _ _ _ _ _ (k .kind-is .ensures) (f .before .if1 .taken) (f .variable-fields .ensures) (c .before .if2 .left) _
+    (k .before .loop .inv) (c .if3 .taken)
 
 add-at : tie.Need-add-at Inv-loop μ-loop
-add-at c = omega (arith, kind-here _ _ _ (sym (c .before .before .before .before .kind-is .ensures) ∙ c .before .before .before .if1 .taken))
+add-at c = let i = c .before .before .before in omega (arith, found-here _ _ _ (i .before .kind-is .ensures) (i .if1 .taken))
 
 sub-left : tie.Need-sub-left Inv-loop μ-loop
 sub-left c = omega arith
@@ -43,10 +48,14 @@ loop-less : tie.Need-loop-less Inv-loop μ-loop
 loop-less c = omega arith
 
 loop-again : tie.Need-loop-again Inv-loop μ-loop
-loop-again c = c .before .before .before .before .before .loop .inv ∙ items-ends _ _ _ _ _ _ (sym (c .before .before .before .before .kind-is .ensures) ∙ c .before .before .before .if1 .taken) (sym (c .before .before .variable-fields .ensures) ∙ not-false _ (c .before .if2 .left)) _ _ (c .if3 .left) refl
+loop-again c =
+    let f = c .before .before in
+    let k = f .before .before in
+    items-ends _ _ _ _ _ _ (k .kind-is .ensures) (f .before .if1 .taken) (f .variable-fields .ensures) (c .before .if2 .left) refl _ _
+    (k .before .loop .inv) (c .if3 .left) refl
 
 returns-3 : tie.Need-returns-3 Inv-loop μ-loop
-returns-3 c = sym (c .before .before .loop .inv ∙ items-stop _ _ _ _ _ _ _ (sym (c .before .kind-is .ensures) ∙ c .if1 .left))
+returns-3 c = items-stop _ _ _ _ _ _ (c .before .kind-is .ensures) _ (c .before .before .loop .inv) (c .if1 .left)
 
 pub variables-spec : {M : Type 1} → statement M
 variables-spec =

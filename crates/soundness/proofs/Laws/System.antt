@@ -2,9 +2,10 @@
 --     successor-state     the successor of an enabled transition at a state is a state
 --     step-run            so a state and its successor are a run
 --     state-run           and a state by itself is one: a run "begins in any state"
+--     idle-run            and a state for ever
 -- Assumes nothing.
 use mathlib.Core.Path.{_≡_, refl}
-use mathlib.Core.Logic.{inr}
+use mathlib.Core.Logic.{inl, inr}
 use mathlib.Core.List.{List, [], _∷_}
 use Prim.Native.Nat.{ℕ, zero, suc, _<_}
 use native.Mathlib.Omega.{arith}
@@ -18,11 +19,11 @@ use Rattle.states.specs.State.{State}
 use Rattle.evaluating.specs.Transition.{enabledOf}
 use Rattle.evaluating.proofs.Laws.Readable as readable
 use Rattle.testing.specs.Holding.{guardHolds, valuesFit, nextState}
-use Rattle.runs.specs.Run.{finite, Position, at, enabled, Next, IsRun}
+use Rattle.runs.specs.Run.{finite, endless, Position, at, enabled, Next, IsRun}
 use Rattle.soundness.specs.System.{systemOf}
 use Rattle.truths.proofs.Laws.Truth.{is-true}
 
-module _ (file : List ℕ) (o : Outline) (r : readOf file ≡ Reading.Readable o) (s : List ℤ) (w : State file (o .vars) s) where
+module _ (file : List ℕ) (o : Outline) (s : List ℤ) (w : State file (o .vars) s) where
   pub state-run : IsRun (systemOf file o) (finite s [])
   state-run = record { states = states; steps = steps }
     where
@@ -33,7 +34,10 @@ module _ (file : List ℕ) (o : Outline) (r : readOf file ≡ Reading.Readable o
       steps : (n : ℕ) → Position (finite s []) (suc n) → Next (systemOf file o) (at (finite s []) n) (at (finite s []) (suc n))
       steps n p = absurd (omega arith)
 
-  module _ (t : ℕ) (e : T (enabled (systemOf file o) t s)) where
+  pub idle-run : IsRun (systemOf file o) (endless (λ n. s))
+  idle-run = record { states = λ n p. w; steps = λ n p. inl refl }
+
+  module _ (r : readOf file ≡ Reading.Readable o) (t : ℕ) (e : T (enabled (systemOf file o) t s)) where
     pub successor-state : State file (o .vars) (nextState file o t s)
     unfolding nextState guardHolds valuesFit enabledOf
     successor-state = readable.successor-within file o r s w (transitionAt file o t) (is-true _ e)

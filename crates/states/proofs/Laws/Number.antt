@@ -70,7 +70,8 @@ unfolding countOf stateOf
 state-within no-ranges n l = no-values
 state-within (more-ranges {low} {high} {lows} {highs} p r) n l =
     let d = n / countOf lows highs in
-    more-values (at-above low d) (below-high d p (div-lt-iff-lt-mul (count-pos lows highs) .1 l)) (state-within r (n % countOf lows highs) (mod-lt n (count-pos lows highs)))
+    let some = count-pos lows highs in
+    more-values (at-above low d) (below-high d p (div-lt-iff-lt-mul some .1 l)) (state-within r (n % countOf lows highs) (mod-lt n some))
 
 -- so no two states have one number
 pub number-unique : {lows highs s t : List ℤ} → Within lows highs s → Within lows highs t → numberOf lows highs s ≡ numberOf lows highs t → s ≡ t
@@ -138,16 +139,16 @@ next-number : {lows highs state : List ℤ} → Within lows highs state → last
     → numberOf lows highs (advanceOf lows highs state) ≡ numberOf lows highs state + 1
 unfolding lastOf numberOf advanceOf
 next-number no-values e = let z : _≡_ {A = ℕ} 0 1 = cc in absurd (omega arith)
-next-number (more-values {low} {high} {value} {lows} {highs} {state} p q w) e = go (lastOf highs state) refl (next-number w) e
+next-number (more-values {low} {high} {value} {lows} {highs} {state} p q w) e = by-last (lastOf highs state) refl (next-number w) e
   where
-    go : (b : Bool) → lastOf highs state ≡ b
+    by-last : (b : Bool) → lastOf highs state ≡ b
         → (lastOf highs state ≡ false → numberOf lows highs (advanceOf lows highs state) ≡ numberOf lows highs state + 1)
         → (leZ high value && lastOf highs state) ≡ false
         → offsetOf low (cond (lastOf highs state) (cond (ltZ value high) (value +ℤ pos 1) low) value) * countOf lows highs
         + numberOf lows highs (advanceOf lows highs state)
         ≡ offsetOf low value * countOf lows highs + numberOf lows highs state + 1
-    go false is ih f = rw (is, ih is) (omega arith)
-    go true is ih f =
+    by-last false is ih f = rw (is, ih is) (omega arith)
+    by-last true is ih f =
         let h = last-number w is in
         let g : leZ high value ≡ false = rw (is, and-true) at f in
         let t : ltZ value high ≡ true = omega ints in

@@ -131,7 +131,8 @@ module _ (lows highs : List ℤ) (number : ℕ) where
   rest-from j l m = rw (count-from lows highs j l m, div-div-eq-div-mul, mul-comm (countFrom lows highs (suc j)) (sizeAt lows highs j))
 
   pub digits-step : (state : List ℤ) (rest i : ℕ) → Digits lows highs number state rest i → 0 < i
-      → Digits lows highs number (set state (i - 1) (at (getD lows (i - 1) (pos 0)) (rest % sizeAt lows highs (i - 1)))) (rest / sizeAt lows highs (i - 1)) (i - 1)
+      → Digits lows highs number (set state (i - 1) (at (getD lows (i - 1) (pos 0)) (rest % sizeAt lows highs (i - 1))))
+      (rest / sizeAt lows highs (i - 1)) (i - 1)
   digits-step state rest zero d p = absurd (omega arith)
   digits-step state rest (suc j) d p =
       let l : j < length lows = omega arith in
@@ -144,7 +145,8 @@ module _ (lows highs : List ℤ) (number : ℕ) where
         done = rw (d .done, d .left, sub-one, state-from j l m) (set-join j lows _ _ l);
       }
 
-  pub digits-end : (state : List ℤ) (rest i : ℕ) → Digits lows highs number state rest i → i ≤ 0 → number < countOf lows highs → state ≡ stateOf lows highs number
+  pub digits-end : (state : List ℤ) (rest i : ℕ) → Digits lows highs number state rest i → i ≤ 0 → number < countOf lows highs
+      → state ≡ stateOf lows highs number
   digits-end state rest zero d p l = d .done ∙ rw (mod-eq-of-lt l)
   digits-end state rest (suc j) d p l = absurd (omega arith)
 

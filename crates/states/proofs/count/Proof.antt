@@ -1,12 +1,14 @@
--- `states::count` meets its contract: the product is the count of the states of the variables from i on.
+-- `states::count`: the product is the count of the states of the variables from i on (`Counted`). The measure is i.
 -- Assumes nothing.
 use borrow.Author.Needs.{needs}
 use mathlib.Core.Path.{_≡_}
-use Prim.Native.Nat.{_-_, _*_}
+use mathlib.Core.List.{List}
+use Prim.Native.Nat.{ℕ, _-_, _*_}
 use native.Mathlib.Omega.{arith}
-use lib.IntN.{pos}
+use lib.IntN.{ℤ, pos}
 use lib.ListN.{getD}
 use mir.Syntax.{w16}
+use mir.Val.{toZ, ofZ}
 use Rattle.integers.proofs.Laws.Parts.{back}
 use Rattle.states.proofs.Laws.State.{ranges-at}
 use Rattle.states.proofs.Steps.Number.{sizeAt, Counted, counted-begin, counted-step, counted-most, counted-end}
@@ -37,30 +39,44 @@ mul-size-2 c = search needs
 array-copy-out-size-2 : tie.Need-array-copy-out-size-2 Inv-loop μ-loop
 array-copy-out-size-2 c = search needs
 
-size-requires : tie.Need-size-requires Inv-loop μ-loop
-size-requires c κs = let j = c .before .before .before .loop .i - 1 in
-    rw (back w16 (getD (c .before .before .before .before .args .t1) j (pos 0)) (c .before .size-arg .given), back w16 (getD (c .before .before .before .before .args .t2) j (pos 0)) (c .size-arg2 .given)) (ranges-at (c .before .before .before .before .pre .0) j)
+-- the variable that the turn is about; the ends of its range are held as they are
+module _ (c : tie.After-size-arg2 Inv-loop μ-loop) where
+  abbrev lows : List ℤ
+  lows = c .before .before .before .before .args .t1
 
--- the variable that the turn is about is counted in
-next : (c : tie.After-size Inv-loop μ-loop)
-    → Counted (c .before .before .before .before .before .args .t1) (c .before .before .before .before .before .args .t2)
-    (c .before .before .before .before .loop .product * c .size .result)
-    (c .before .before .before .before .loop .i - 1)
-next c =
-    let a = c .before .before .before .before .before .args in
-    let j = c .before .before .before .before .loop .i - 1 in
-    let e : c .size .result ≡ sizeAt (a .t1) (a .t2) j =
-    rw (back w16 (getD (a .t1) j (pos 0)) (c .before .before .size-arg .given), back w16 (getD (a .t2) j (pos 0)) (c .before .size-arg2 .given)) at (c .size .ensures .0) in
-    rw e (counted-step _ _ _ _ (c .before .before .before .before .loop .inv) (c .before .before .before .loop-test .taken))
+  abbrev highs : List ℤ
+  highs = c .before .before .before .before .args .t2
+
+  abbrev variable : ℕ
+  variable = c .before .before .before .loop .i - 1
+
+  low-held : toZ w16 (ofZ w16 (getD lows variable (pos 0))) ≡ getD lows variable (pos 0)
+  low-held = back w16 _ (c .before .size-arg .given)
+
+  high-held : toZ w16 (ofZ w16 (getD highs variable (pos 0))) ≡ getD highs variable (pos 0)
+  high-held = back w16 _ (c .size-arg2 .given)
+
+size-requires : tie.Need-size-requires Inv-loop μ-loop
+size-requires c κs = rw (low-held c, high-held c) (ranges-at (c .before .before .before .before .pre .0) (variable c))
+
+-- the variable is counted in
+counted-next : (c : tie.After-size Inv-loop μ-loop)
+    → Counted (lows (c .before)) (highs (c .before)) (c .before .before .before .before .loop .product * c .size .result) (variable (c .before))
+counted-next c =
+    let size : c .size .result ≡ sizeAt (lows (c .before)) (highs (c .before)) (variable (c .before)) =
+    rw (low-held (c .before), high-held (c .before)) at (c .size .ensures .0) in
+    rw size (counted-step _ _ _ _ (c .before .before .before .before .loop .inv) (c .before .before .before .loop-test .taken))
 
 mul-product : tie.Need-mul-product Inv-loop μ-loop
-mul-product c = record { fits = omega (arith, counted-most _ _ (c .before .before .before .before .before .pre .0) _ _ (next c), c .before .before .before .before .before .pre .1) }
+mul-product c =
+    let asked = c .before .before .before .before .before .pre in
+    record { fits = omega (arith, counted-most _ _ (asked .0) _ _ (counted-next c), asked .1) }
 
 loop-less : tie.Need-loop-less Inv-loop μ-loop
 loop-less c = search needs
 
 loop-again : tie.Need-loop-again Inv-loop μ-loop
-loop-again c = next c
+loop-again c = counted-next c
 
 returns : tie.Need-returns Inv-loop μ-loop
 returns c = counted-end _ _ _ _ (c .before .loop .inv) (c .loop-test .left)

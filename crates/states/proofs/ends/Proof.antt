@@ -1,4 +1,4 @@
--- `states::ends` meets its contract: with the ends of v variables filled in, the table is that of v variables.
+-- `states::ends`: with the ends of v variables filled in, the table is that of v variables.
 -- Assumes nothing.
 use borrow.Author.Needs.{needs}
 use native.Mathlib.Omega.{arith}

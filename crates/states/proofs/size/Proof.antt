@@ -1,4 +1,4 @@
--- `states::size` meets its contract: the offset of a range's high end is below 65,536.
+-- `states::size`: the offset of a range's high end is below 65,536.
 -- Assumes nothing.
 use mathlib.Core.Path.{ap}
 use Prim.Native.Nat.{ℕ, _+_}

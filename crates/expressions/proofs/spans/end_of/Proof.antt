@@ -1,4 +1,4 @@
--- `expressions::spans::end_of` meets its contract. Assumes nothing.
+-- `expressions::spans::end_of`: an entry is below 65,536, and beyond the table it is zero. Assumes nothing.
 use borrow.Author.Needs.{needs}
 use native.Mathlib.Omega.{arith}
 use lib.ListN.{List·getD-eq-default}

@@ -1,4 +1,4 @@
--- `expressions::spans::spans_of` meets its contract: from `at` on the table is the definition's. Assumes nothing.
+-- `expressions::spans::spans_of`: from `at` on the table is the definition's. Assumes nothing.
 use borrow.Author.Needs.{needs}
 use mathlib.Core.Path.{_≡_, _∙_}
 use mathlib.Core.Logic.{⊎-map}

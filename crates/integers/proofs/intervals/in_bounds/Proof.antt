@@ -21,8 +21,9 @@ low c = rw (back w64 (c .before .before .before .args .i .low) (c .before .struc
 returns : tie.Need-returns
 unfolding inBounds
 returns c =
+    let s = c .before .before .before in
     simp (sym (low (c .before .before)) ∙ c .before .if1 .taken)
-    (rw (back w64 (c .before .before .before .before .before .args .i .high) (c .before .before .before .struct-told2 .given .1 .0 .1)) at (c .between2 .ensures))
+    (rw (back w64 (s .before .before .args .i .high) (s .struct-told2 .given .1 .0 .1)) at (c .between2 .ensures))
 
 returns-2 : tie.Need-returns-2
 unfolding inBounds

@@ -1,4 +1,4 @@
--- `reading::edges::chain_rule` meets its contract, by the tests passed.
+-- `reading::edges::chain_rule`: each answer is what `chainRuleOf` says by the tests passed so far.
 -- Assumes nothing.
 use mathlib.Core.Path.{sym, _∙_}
 use Prim.Native.Nat.{_+_, _*_}
@@ -63,10 +63,19 @@ just-requires : tie.Need-just-requires
 just-requires c κs = search needs
 
 returns-3 : tie.Need-returns-3
-returns-3 c = c .just .ensures ∙ sym (chain-double _ _ _ (sym (c .before .before .before .before .before .before .before .before .conflicts .ensures) ∙ c .before .before .before .before .before .before .before .if1 .left) (c .before .before .before .before .before .if2 .left) _ _ (c .before .before .before .before .word-at .ensures .0) (c .before .before .before .word-at2 .ensures .0) (c .before .before .if3 .taken))
+returns-3 c =
+    let below = c .before .before in
+    let double = below .before .before .before in
+    let apart = sym (double .before .before .before .conflicts .ensures) ∙ double .before .before .if1 .left in
+    let to = below .before .before .word-at .ensures .0 in
+    let from = below .before .word-at2 .ensures .0 in
+    c .just .ensures ∙ sym (chain-double _ _ _ apart (double .if2 .left) _ _ to from (below .if3 .taken))
 
 returns-4 : tie.Need-returns-4
-returns-4 c = sym (chain-level _ _ _ (sym (c .before .before .before .before .before .before .conflicts .ensures) ∙ c .before .before .before .before .before .if1 .left) (c .before .before .before .if2 .left) _ _ (c .before .before .word-at .ensures .0) (c .before .word-at2 .ensures .0) (c .if3 .left))
+returns-4 c =
+    let double = c .before .before .before in
+    let apart = sym (double .before .before .before .conflicts .ensures) ∙ double .before .before .if1 .left in
+    sym (chain-level _ _ _ apart (double .if2 .left) _ _ (c .before .before .word-at .ensures .0) (c .before .word-at2 .ensures .0) (c .if3 .left))
 
 pub chain-rule-spec : {M : Type 1} → statement M
 chain-rule-spec =

@@ -1,4 +1,4 @@
--- `reading::edges::conflict` meets its contract, by the tests passed.
+-- `reading::edges::conflict`: each answer is what `conflictOf` says by the tests passed so far.
 -- Assumes nothing.
 use mathlib.Core.Path.{sym}
 use Rattle.reading.proofs.Steps.Edge.{conflict-apart, conflict-same, conflict-double, conflict-single}
@@ -64,13 +64,21 @@ shared-slice-read-if2-2 : tie.Need-shared-slice-read-if2-2
 shared-slice-read-if2-2 c = search needs
 
 returns-2 : tie.Need-returns-2
-returns-2 c = sym (conflict-same _ _ _ _ _ (c .before .before .before .before .before .before .before .word-at .ensures .0) (c .before .before .before .before .before .before .word-at2 .ensures .0) (c .before .before .before .before .before .if1 .left) (c .if2 .taken))
+returns-2 c =
+    let from = c .before .before .before .before .before in
+    sym (conflict-same _ _ _ _ _ (from .before .before .word-at .ensures .0) (from .before .word-at2 .ensures .0) (from .if1 .left) (c .if2 .taken))
 
 returns-3 : tie.Need-returns-3
-returns-3 c = sym (conflict-double _ _ _ _ _ (c .before .before .before .before .before .before .before .before .word-at .ensures .0) (c .before .before .before .before .before .before .before .word-at2 .ensures .0) (c .before .before .before .before .before .before .if1 .left) (c .before .if2 .left) (c .if3 .taken))
+returns-3 c =
+    let from = c .before .before .before .before .before .before in
+    let starts = conflict-double _ _ _ _ _ (from .before .before .word-at .ensures .0) (from .before .word-at2 .ensures .0) (from .if1 .left) in
+    sym (starts (c .before .if2 .left) (c .if3 .taken))
 
 returns-4 : tie.Need-returns-4
-returns-4 c = sym (conflict-single _ _ _ _ _ (c .before .before .before .before .before .before .before .before .word-at .ensures .0) (c .before .before .before .before .before .before .before .word-at2 .ensures .0) (c .before .before .before .before .before .before .if1 .left) (c .before .if2 .left) (c .if3 .left))
+returns-4 c =
+    let from = c .before .before .before .before .before .before in
+    let starts = conflict-single _ _ _ _ _ (from .before .before .word-at .ensures .0) (from .before .word-at2 .ensures .0) (from .if1 .left) in
+    sym (starts (c .before .if2 .left) (c .if3 .left))
 
 pub conflict-spec : {M : Type 1} → statement M
 conflict-spec =

@@ -1,4 +1,4 @@
--- `reading::edges::conflicts` meets its contract: the edges left decide for all.
+-- `reading::edges::conflicts`: whether one of the edges left conflicts is whether one of all does; they stand before `at`.
 -- Assumes nothing.
 use mathlib.Core.Path.{_≡_, refl, sym, _∙_}
 use Prim.Native.Nat.{_+_, _≤_}
@@ -10,7 +10,8 @@ use Rattle.reading.proofs.edges.conflicts.Statement.{statement}
 use Rattle.reading.proofs.edges.conflicts.Tie as tie
 
 abbrev Inv-loop : tie.InvT-loop
-Inv-loop file at first n left₀ edge₀ left edge = (any (λ e. conflictOf file e at) n first ≡ any (λ e. conflictOf file e at) left edge) × (edge + left ≤ at)
+Inv-loop file at first n left₀ edge₀ left edge =
+    (any (λ e. conflictOf file e at) n first ≡ any (λ e. conflictOf file e at) left edge) × (edge + left ≤ at)
 
 abbrev μ-loop : tie.MeasureT-loop
 μ-loop file at first n left₀ edge₀ left edge = left
@@ -22,7 +23,9 @@ conflict-requires : tie.Need-conflict-requires Inv-loop μ-loop
 conflict-requires c κs = omega arith
 
 returns : tie.Need-returns Inv-loop μ-loop
-returns c = sym (c .before .before .before .loop .inv .0 ∙ any-hit _ _ _ (c .before .before .loop-test .taken) (sym (c .before .conflict .ensures) ∙ c .if1 .taken))
+returns c =
+    let all = c .before .before .before .loop .inv .0 in
+    sym (all ∙ any-hit _ _ _ (c .before .before .loop-test .taken) (sym (c .before .conflict .ensures) ∙ c .if1 .taken))
 
 add-edge : tie.Need-add-edge Inv-loop μ-loop
 add-edge c = omega arith
@@ -34,7 +37,9 @@ loop-less : tie.Need-loop-less Inv-loop μ-loop
 loop-less c = omega arith
 
 loop-again : tie.Need-loop-again Inv-loop μ-loop
-loop-again c = (c .before .before .before .loop .inv .0 ∙ any-next _ _ _ (c .before .before .loop-test .taken) (sym (c .before .conflict .ensures) ∙ c .if1 .left), omega arith)
+loop-again c =
+    let all = c .before .before .before .loop .inv .0 in
+    (all ∙ any-next _ _ _ (c .before .before .loop-test .taken) (sym (c .before .conflict .ensures) ∙ c .if1 .left), omega arith)
 
 returns-2 : tie.Need-returns-2 Inv-loop μ-loop
 returns-2 c = sym (c .before .loop .inv .0 ∙ any-none _ _ _ (c .loop-test .left))

@@ -1,4 +1,4 @@
--- `reading::edges::descends` meets its contract, by the tests passed.
+-- `reading::edges::descends`: each answer is what `descending` says by the tests passed so far.
 -- Assumes nothing.
 use mathlib.Core.Path.{sym}
 use borrow.Author.Tests.{le-leb, lt-leb}

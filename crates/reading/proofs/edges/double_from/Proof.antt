@@ -1,4 +1,4 @@
--- `reading::edges::double_from` meets its contract, by the tests passed.
+-- `reading::edges::double_from`: each answer is what `doubleFrom` says by the tests passed so far.
 -- Assumes nothing.
 use mathlib.Core.Path.{sym}
 use borrow.Author.Tests.{eq-eqb, ne-eqb}

@@ -1,4 +1,4 @@
--- `reading::edges::doubled` meets its contract: the edges left decide for all.
+-- `reading::edges::doubled`: whether one of the edges left is double and from the node is whether one of all is; they are in the file.
 -- Assumes nothing.
 use mathlib.Core.Path.{_≡_, refl, sym, _∙_}
 use Prim.Native.Nat.{_+_, _*_, _≤_}
@@ -24,7 +24,9 @@ double-from-requires c κs = omega arith
 
 returns : tie.Need-returns Inv-loop μ-loop
 unfolding doubledOf
-returns c = sym (c .before .before .before .loop .inv .0 ∙ any-hit _ _ _ (c .before .before .loop-test .taken) (sym (c .before .double-from .ensures) ∙ c .if1 .taken))
+returns c =
+    let all = c .before .before .before .loop .inv .0 in
+    sym (all ∙ any-hit _ _ _ (c .before .before .loop-test .taken) (sym (c .before .double-from .ensures) ∙ c .if1 .taken))
 
 add-at : tie.Need-add-at Inv-loop μ-loop
 add-at c = omega arith
@@ -36,7 +38,9 @@ loop-less : tie.Need-loop-less Inv-loop μ-loop
 loop-less c = omega arith
 
 loop-again : tie.Need-loop-again Inv-loop μ-loop
-loop-again c = (c .before .before .before .loop .inv .0 ∙ any-next _ _ _ (c .before .before .loop-test .taken) (sym (c .before .double-from .ensures) ∙ c .if1 .left), omega arith)
+loop-again c =
+    let all = c .before .before .before .loop .inv .0 in
+    (all ∙ any-next _ _ _ (c .before .before .loop-test .taken) (sym (c .before .double-from .ensures) ∙ c .if1 .left), omega arith)
 
 returns-2 : tie.Need-returns-2 Inv-loop μ-loop
 unfolding doubledOf

@@ -1,8 +1,10 @@
--- `reading::edges::just` meets its contract: the table has the transition's place, which is within the file.
+-- `reading::edges::just`: the table has the transition's place, which is within the file.
 -- Assumes nothing.
 use mathlib.Core.Path.{_≡_, ap, _∙_}
+use mathlib.Core.List.{List}
 use Prim.Native.Nat.{ℕ, _+_, _*_, _/_, _≤_}
 use native.Mathlib.Omega.{arith}
+use denote.Ref.{now}
 use lib.Dec.{eqb}
 use lib.ListN.{length, getD}
 use Rattle.reading.specs.Edge.{transitionAt, justOf}
@@ -12,11 +14,18 @@ use Rattle.reading.proofs.edges.just.Statement.{statement}
 use Rattle.reading.proofs.edges.just.Tie as tie
 
 -- what the table says of the transition
-entry : (c : tie.After-shared-slice-known) → getD (c .before .args .t3) (c .before .args .t) 0 ≡ transitionAt (c .before .args .file .now) (c .before .args .outline) (c .before .args .t)
-entry c = transition-entry _ _ _ _ (c .before .pre .1 .0) (c .before .pre .0 .transitions-most) (c .before .pre .1 .1)
+module _ (c : tie.After-shared-slice-known) where
+  abbrev file : List ℕ
+  file = now (c .before .args .file)
 
-within : (c : tie.After-shared-slice-known) → transitionAt (c .before .args .file .now) (c .before .args .outline) (c .before .args .t) ≤ length (c .before .args .file .now) / 8
-within c = transition-within _ _ _ (c .before .pre .0 .transition-here)
+  abbrev place : ℕ
+  place = transitionAt file (c .before .args .outline) (c .before .args .t)
+
+  entry : getD (c .before .args .t3) (c .before .args .t) 0 ≡ place
+  entry = transition-entry _ _ _ _ (c .before .pre .1 .0) (c .before .pre .0 .transitions-most) (c .before .pre .1 .1)
+
+  within : place ≤ length file / 8
+  within = transition-within _ _ _ (c .before .pre .0 .transition-here)
 
 mul-place : tie.Need-mul-place
 mul-place c = search needs
@@ -35,7 +44,7 @@ byte-at-requires c κs = search needs
 
 returns : tie.Need-returns
 unfolding justOf
-returns c = ap (λ (n : ℕ). eqb n 1) (c .byte-at .ensures ∙ ap (λ (n : ℕ). getD (c .before .before .args .file .now) (8 * n + 1) 0) (entry (c .before)))
+returns c = ap (λ (n : ℕ). eqb n 1) (c .byte-at .ensures ∙ ap (λ (n : ℕ). getD (file (c .before)) (8 * n + 1) 0) (entry (c .before)))
 
 pub just-spec : {M : Type 1} → statement M
 just-spec =

@@ -1,4 +1,4 @@
--- `reading::edges::rule` meets its contract, by the tests passed.
+-- `reading::edges::rule`: each answer is what `ruleOf` says by the tests passed so far.
 -- Assumes nothing.
 use mathlib.Core.Path.{sym, _∙_}
 use borrow.Author.Tests.{not-true, not-false}
@@ -35,13 +35,17 @@ returns-2 : tie.Need-returns-2
 returns-2 c = sym (rule-rises _ _ _ (c .before .before .if1 .left) (sym (c .before .descends .ensures) ∙ not-true _ (c .if2 .taken)))
 
 returns-3 : tie.Need-returns-3
-returns-3 c = sym (rule-waiting _ _ _ (c .before .before .before .if1 .left) (sym (c .before .before .descends .ensures) ∙ not-false _ (c .before .if2 .left)) (c .if3 .taken))
+returns-3 c =
+    let descends = sym (c .before .before .descends .ensures) ∙ not-false _ (c .before .if2 .left) in
+    sym (rule-waiting _ _ _ (c .before .before .before .if1 .left) descends (c .if3 .taken))
 
 chain-rule-requires : tie.Need-chain-rule-requires
 chain-rule-requires c κs = search needs
 
 returns-4 : tie.Need-returns-4
-returns-4 c = c .chain-rule .ensures ∙ sym (rule-chain _ _ _ (c .before .before .before .before .if1 .left) (sym (c .before .before .before .descends .ensures) ∙ not-false _ (c .before .before .if2 .left)) (c .before .if3 .left))
+returns-4 c =
+    let descends = sym (c .before .before .before .descends .ensures) ∙ not-false _ (c .before .before .if2 .left) in
+    c .chain-rule .ensures ∙ sym (rule-chain _ _ _ (c .before .before .before .before .if1 .left) descends (c .before .if3 .left))
 
 pub rule-spec : {M : Type 1} → statement M
 rule-spec =

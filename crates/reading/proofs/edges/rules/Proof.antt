@@ -1,4 +1,4 @@
--- `reading::edges::rules` meets its contract: the edges left decide for all.
+-- `reading::edges::rules`: what refuses the edges left refuses all; the edges left are the last of the file.
 -- Assumes nothing.
 use mathlib.Core.Path.{_≡_, refl, sym, _∙_}
 use Prim.Native.Nat.{_+_, _≤_}
@@ -12,7 +12,8 @@ use Rattle.reading.proofs.edges.rules.Statement.{statement}
 use Rattle.reading.proofs.edges.rules.Tie as tie
 
 abbrev Inv-loop : tie.InvT-loop
-Inv-loop file outline places left₀ at₀ left at = (rulesOf file outline ≡ refuseFirst 9 (ruleOf file outline) left at) × (at + left ≡ outline .edge + outline .edges) × (outline .edge ≤ at)
+Inv-loop file outline places left₀ at₀ left at =
+    (rulesOf file outline ≡ refuseFirst 9 (ruleOf file outline) left at) × (at + left ≡ outline .edge + outline .edges) × (outline .edge ≤ at)
 
 abbrev μ-loop : tie.MeasureT-loop
 μ-loop file outline places left₀ at₀ left at = left
@@ -25,10 +26,14 @@ unfolding rulesOf
 loop-holds c = (refl, refl, omega arith)
 
 rule-requires : tie.Need-rule-requires Inv-loop μ-loop
-rule-requires c κs = edge-fits _ _ _ _ _ (c .before .before .before .before .pre) (c .before .before .transition-places .ensures) (c .before .loop .inv .1) (c .before .loop .inv .2) (c .loop-test .taken)
+rule-requires c κs =
+    let inv = c .before .loop .inv in
+    edge-fits _ _ _ _ _ (c .before .before .before .before .pre) (c .before .before .transition-places .ensures) (inv .1) (inv .2) (c .loop-test .taken)
 
 returns : tie.Need-returns Inv-loop μ-loop
-returns c = sym (c .before .before .before .loop .inv .0 ∙ refuse-fails _ _ _ _ (c .before .before .loop-test .taken) (sym (c .before .rule .ensures) ∙ not-true _ (c .if1 .taken)))
+returns c =
+    let all = c .before .before .before .loop .inv .0 in
+    sym (all ∙ refuse-fails _ _ _ _ (c .before .before .loop-test .taken) (sym (c .before .rule .ensures) ∙ not-true _ (c .if1 .taken)))
 
 add-at : tie.Need-add-at Inv-loop μ-loop
 add-at c = omega arith
@@ -40,7 +45,10 @@ loop-less : tie.Need-loop-less Inv-loop μ-loop
 loop-less c = omega arith
 
 loop-again : tie.Need-loop-again Inv-loop μ-loop
-loop-again c = (c .before .before .before .loop .inv .0 ∙ refuse-next _ _ _ _ (c .before .before .loop-test .taken) (sym (c .before .rule .ensures) ∙ not-false _ (c .if1 .left)), omega arith, omega arith)
+loop-again c =
+    let all = c .before .before .before .loop .inv .0 in
+    let obeyed = sym (c .before .rule .ensures) ∙ not-false _ (c .if1 .left) in
+    (all ∙ refuse-next _ _ _ _ (c .before .before .loop-test .taken) obeyed, omega arith, omega arith)
 
 returns-2 : tie.Need-returns-2 Inv-loop μ-loop
 returns-2 c = sym (c .before .loop .inv .0 ∙ refuse-none _ _ _ _ (c .loop-test .left))

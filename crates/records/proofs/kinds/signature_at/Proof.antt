@@ -1,4 +1,4 @@
--- `records::kinds::signature_at` meets its contract.
+-- `records::kinds::signature_at` meets its contract: the signature of the form of the record's kind byte.
 -- Assumes nothing.
 use mathlib.Core.Path.{ap, _∙_}
 use Rattle.records.specs.Kind.{signatureOf}

@@ -1,10 +1,10 @@
 -- `records::walk::walk` meets its contract, by the tests in their order; in the loop the operands left say what all of them do. The measure is the
 -- levels left. Assumes nothing.
-use mathlib.Core.Path.{_≡_, refl, sym, _∙_}
+use mathlib.Core.Path.{_≡_, refl, _∙_}
 use native.Mathlib.Omega.{arith}
 use borrow.Author.Needs.{needs}
-use borrow.Author.Tests.{not-true, not-false}
-use Rattle.records.proofs.Steps.Walk.{sequence-ends, sequence-refused, sequence-none, walk-short, walk-unfit, walk-field, walk-deep, walk-step}
+use Rattle.records.proofs.Steps.Walk.{sequence-ends, sequence-refused, sequence-none}
+use Rattle.records.proofs.Steps.Walk.{walk-short, walk-unfit, walk-field, walk-deep, walk-step}
 use Rattle.records.specs.Walk.{inSequence, walkOf}
 use Prim.Native.Nat.{ℕ, _+_, _-_, _<_}
 use borrow.Fn.Kinds.{In}
@@ -37,22 +37,29 @@ abbrev walk-μ-loop : walk-lts.MeasureT-loop
 walk-μ-loop file at want vars levels sort over left₀ next₀ left next = left
 
 walk-returns : (t : ℕ) → walk-lts.Need-returns (others t) (walk-at t) walk.Post walk-Inv-loop walk-μ-loop
-walk-returns t c = sym (walk-short _ _ _ _ _ (c .if1 .taken))
+walk-returns t c = walk-short _ _ _ _ _ (c .if1 .taken)
 
 walk-signature-at-requires : (t : ℕ) → walk-lts.Need-signature-at-requires (others t) (walk-at t) walk.Post walk-Inv-loop walk-μ-loop
 walk-signature-at-requires t c κs = omega arith
 
 walk-returns-2 : (t : ℕ) → walk-lts.Need-returns-2 (others t) (walk-at t) walk.Post walk-Inv-loop walk-μ-loop
-walk-returns-2 t c = sym (walk-unfit _ _ _ _ _ (c .before .signature-at .ensures) (c .before .before .if1 .left) _ (c .if2 .taken))
+walk-returns-2 t c = walk-unfit _ _ _ _ _ (c .before .signature-at .ensures) (c .before .before .if1 .left) _ (c .if2 .taken)
 
 walk-expression-fields-requires : (t : ℕ) → walk-lts.Need-expression-fields-requires (others t) (walk-at t) walk.Post walk-Inv-loop walk-μ-loop
 walk-expression-fields-requires t c κs = omega arith
 
 walk-returns-3 : (t : ℕ) → walk-lts.Need-returns-3 (others t) (walk-at t) walk.Post walk-Inv-loop walk-μ-loop
-walk-returns-3 t c = sym (walk-field _ _ _ _ _ (c .before .before .before .signature-at .ensures) (c .before .before .before .before .if1 .left) (c .before .before .if2 .left) _ (sym (c .before .expression-fields .ensures) ∙ not-true _ (c .if3 .taken)))
+walk-returns-3 t c =
+    let e = c .before .before in
+    let s = e .before in
+    walk-field _ _ _ _ _ (s .signature-at .ensures) (s .before .if1 .left) (e .if2 .left) (c .before .expression-fields .ensures) _ (c .if3 .taken)
 
 walk-returns-4 : (t : ℕ) → walk-lts.Need-returns-4 (others t) (walk-at t) walk.Post walk-Inv-loop walk-μ-loop
-walk-returns-4 t c = sym (walk-deep _ _ _ _ _ (c .before .before .before .before .signature-at .ensures) (c .before .before .before .before .before .if1 .left) (c .before .before .before .if2 .left) (sym (c .before .before .expression-fields .ensures) ∙ not-false _ (c .before .if3 .left)) _ (c .if4 .taken))
+walk-returns-4 t c =
+    let f = c .before .before in
+    let s = f .before .before in
+    walk-deep _ _ _ _ _ (s .signature-at .ensures) (s .before .if1 .left) (f .before .if2 .left) (f .expression-fields .ensures) (c .before .if3 .left) _
+    (c .if4 .taken)
 
 walk-add-next : (t : ℕ) → walk-lts.Need-add-next (others t) (walk-at t) walk.Post walk-Inv-loop walk-μ-loop
 walk-add-next t c = omega arith
@@ -64,10 +71,13 @@ walk-loop-holds t c = refl
 begun : (t : ℕ) (c : walk-lts.Else4 (others t) (walk-at t) walk.Post walk-Inv-loop walk-μ-loop) →
     let a = c .before .before .before .before .before .before .before .args in
     let s = c .before .before .before .before .signature-at .result in
-    walkOf (a .file .now) (a .vars) (a .levels) (a .want) (a .at) ≡ inSequence (walkOf (a .file .now) (a .vars) (a .levels - 1) (s .over)) (s .operands) (a .at + 1)
+    walkOf (a .file .now) (a .vars) (a .levels) (a .want) (a .at)
+    ≡ inSequence (walkOf (a .file .now) (a .vars) (a .levels - 1) (s .over)) (s .operands) (a .at + 1)
 begun t c =
-    walk-step _ _ _ _ _ (c .before .before .before .before .signature-at .ensures) (c .before .before .before .before .before .if1 .left)
-    (c .before .before .before .if2 .left) (sym (c .before .before .expression-fields .ensures) ∙ not-false _ (c .before .if3 .left)) _ (c .if4 .left)
+    let f = c .before .before in
+    let s = f .before .before in
+    walk-step _ _ _ _ _ (s .signature-at .ensures) (s .before .if1 .left) (f .before .if2 .left) (f .expression-fields .ensures) (c .before .if3 .left) _
+    (c .if4 .left)
 
 walk-sub-walk : (t : ℕ) → walk-lts.Need-sub-walk (others t) (walk-at t) walk.Post walk-Inv-loop walk-μ-loop
 walk-sub-walk t c = omega arith
@@ -83,10 +93,9 @@ walk-enum-known-operand-2 t c = search needs
 
 walk-returns-5 : (t : ℕ) → walk-lts.Need-returns-5 (others t) (walk-at t) walk.Post walk-Inv-loop walk-μ-loop
 walk-returns-5 t c =
-    let l = c .before .before .before .before .before in
-    sym
-    (begun t (l .before) ∙ l .loop .inv ∙ sequence-refused _ _ _ _ _ (c .before .before .before .before .loop-test .taken)
-    (sym (c .before .before .before .walk .ensures) ∙ c .before .operand2 .given .1))
+    let w = c .before .before .before in
+    let l = w .before .before in
+    sequence-refused _ _ _ (begun t (l .before) ∙ l .loop .inv) (w .before .loop-test .taken) (w .walk .ensures) (c .before .operand2 .given .1)
 
 walk-sub-left : (t : ℕ) → walk-lts.Need-sub-left (others t) (walk-at t) walk.Post walk-Inv-loop walk-μ-loop
 walk-sub-left t c = omega arith
@@ -96,11 +105,11 @@ walk-loop-less t c = omega arith
 
 walk-loop-again : (t : ℕ) → walk-lts.Need-loop-again (others t) (walk-at t) walk.Post walk-Inv-loop walk-μ-loop
 walk-loop-again t c =
-    c .before .before .before .before .before .loop .inv ∙ sequence-ends _ _ _ _ (c .before .before .before .before .loop-test .taken)
-    (sym (c .before .before .before .walk .ensures) ∙ c .before .operand .given .1)
+    let w = c .before .before .before in
+    sequence-ends _ _ _ (w .before .before .loop .inv) (w .before .loop-test .taken) (w .walk .ensures) (c .before .operand .given .1)
 
 walk-returns-6 : (t : ℕ) → walk-lts.Need-returns-6 (others t) (walk-at t) walk.Post walk-Inv-loop walk-μ-loop
-walk-returns-6 t c = sym (begun t (c .before .before) ∙ c .before .loop .inv ∙ sequence-none _ _ _ (c .loop-test .left))
+walk-returns-6 t c = sequence-none _ _ _ (begun t (c .before .before) ∙ c .before .loop .inv) (c .loop-test .left)
 
 pub +walk-spec : {M : Type 1} → statement M
 +walk-spec = close μ-walk λ t. walk-lts.spec (others t)

@@ -1,8 +1,8 @@
--- `records::walk::truths` meets its contract: the expressions left say what all of them do.
+-- `records::walk::truths` meets its contract. The loop's invariant: the expressions left, from `next` on, say what all of them do.
 -- Assumes nothing.
 use borrow.Author.Needs.{needs}
 use native.Mathlib.Omega.{arith}
-use mathlib.Core.Path.{refl, sym, _∙_, _≡_}
+use mathlib.Core.Path.{refl, _≡_}
 use Rattle.records.specs.Walk.{inSequence, truthOf}
 use Rattle.records.proofs.Steps.Walk.{sequence-none, sequence-ends, sequence-refused}
 use Rattle.records.proofs.walk.truths.Statement.{statement}
@@ -27,7 +27,9 @@ enum-known-part-2 : tie.Need-enum-known-part-2 Inv-loop μ-loop
 enum-known-part-2 c = search needs
 
 returns : tie.Need-returns Inv-loop μ-loop
-returns c = sym (c .before .before .before .before .before .loop .inv ∙ sequence-refused _ _ _ _ _ (c .before .before .before .before .loop-test .taken) (sym (c .before .before .before .walk .ensures) ∙ c .before .part2 .given .1))
+returns c =
+    let w = c .before .before .before in
+    sequence-refused _ _ _ (w .before .before .loop .inv) (w .before .loop-test .taken) (w .walk .ensures) (c .before .part2 .given .1)
 
 sub-left : tie.Need-sub-left Inv-loop μ-loop
 sub-left c = omega arith
@@ -36,10 +38,12 @@ loop-less : tie.Need-loop-less Inv-loop μ-loop
 loop-less c = omega arith
 
 loop-again : tie.Need-loop-again Inv-loop μ-loop
-loop-again c = c .before .before .before .before .before .loop .inv ∙ sequence-ends _ _ _ _ (c .before .before .before .before .loop-test .taken) (sym (c .before .before .before .walk .ensures) ∙ c .before .part .given .1)
+loop-again c =
+    let w = c .before .before .before in
+    sequence-ends _ _ _ (w .before .before .loop .inv) (w .before .loop-test .taken) (w .walk .ensures) (c .before .part .given .1)
 
 returns-2 : tie.Need-returns-2 Inv-loop μ-loop
-returns-2 c = sym (c .before .loop .inv ∙ sequence-none _ _ _ (c .loop-test .left))
+returns-2 c = sequence-none _ _ _ (c .before .loop .inv) (c .loop-test .left)
 
 pub truths-spec : {M : Type 1} → statement M
 truths-spec =

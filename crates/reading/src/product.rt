@@ -1,6 +1,7 @@
 // The number of states, the product of the variables' ranges: refusal 7.
 use records::value_at;
 use records::walk::Walked;
+use states::size;
 ghost use mathlib.Core.Path.{_≡_};
 ghost use Prim.Native.Nat.{_+_, _*_, _≤_};
 ghost use lib.ListN.{length};
@@ -16,7 +17,7 @@ fn range_size(file: &[u8], at: usize) -> usize
 {
     let low = value_at(file, 8 * at + 2);
     let high = value_at(file, 8 * at + 4);
-    integers::radix::offset_of(low, high) as usize + 1
+    size(low, high)
 }
 
 // How many states the file has, or refusal 7 at the variable where they pass the limit.

@@ -1,14 +1,14 @@
--- `reading::states::states` meets its contract: the variables left say what all of them do.
+-- `reading::product::states`: what the variables left make of the product so far is what all of them make of 1; the product so far is at most 1,048,576.
 -- Assumes nothing.
 use native.Mathlib.Omega.{arith}
-use mathlib.Core.Path.{refl, sym, ap, _∙_, _≡_}
+use mathlib.Core.Path.{refl, sym, _∙_, _≡_}
 use Prim.Native.Nat.{ℕ, _+_, _*_, _<_, _≤_, _^_}
 use Rattle.reading.specs.States.{statesOf}
 use native.Mathlib.Nat.{mul-le-mul, lt-of-le-of-lt}
 use lib.Dec.{lit<}
 use Rattle.reading.proofs.Steps.States.{states-none, states-over, states-step}
-use Rattle.reading.proofs.states.states.Statement.{statement}
-use Rattle.reading.proofs.states.states.Tie as tie
+use Rattle.reading.proofs.product.states.Statement.{statement}
+use Rattle.reading.proofs.product.states.Tie as tie
 
 product-fits : (a b : ℕ) → a ≤ 1048576 → b ≤ 65536 → a * b < 2 ^ 64
 product-fits a b p q = lt-of-le-of-lt (mul-le-mul p q) (lit< tt)
@@ -32,7 +32,9 @@ mul-next : tie.Need-mul-next Inv-loop μ-loop
 mul-next c = record { fits = product-fits _ _ (c .before .before .loop .inv .1 .1) (c .range-size .ensures .1) }
 
 returns : tie.Need-returns Inv-loop μ-loop
-returns c = sym (c .before .before .before .loop .inv .0 ∙ states-over _ _ _ _ (ap (λ (n : ℕ). c .before .before .before .loop .product * n) (c .before .range-size .ensures .0)) _ (c .before .before .loop-test .taken) (c .if1 .taken))
+returns c =
+    let all = c .before .before .before .loop .inv .0 in
+    sym (all ∙ states-over _ _ _ _ (c .before .range-size .ensures .0) _ (c .before .before .loop-test .taken) (c .if1 .taken))
 
 add-at : tie.Need-add-at Inv-loop μ-loop
 add-at c = omega arith
@@ -44,7 +46,9 @@ loop-less : tie.Need-loop-less Inv-loop μ-loop
 loop-less c = omega arith
 
 loop-again : tie.Need-loop-again Inv-loop μ-loop
-loop-again c = (c .before .before .before .loop .inv .0 ∙ states-step _ _ _ _ (ap (λ (n : ℕ). c .before .before .before .loop .product * n) (c .before .range-size .ensures .0)) _ (c .before .before .loop-test .taken) (c .if1 .left), omega arith)
+loop-again c =
+    let all = c .before .before .before .loop .inv .0 in
+    (all ∙ states-step _ _ _ _ (c .before .range-size .ensures .0) _ (c .before .before .loop-test .taken) (c .if1 .left), omega arith)
 
 returns-2 : tie.Need-returns-2 Inv-loop μ-loop
 returns-2 c = sym (c .before .loop .inv .0 ∙ states-none _ _ _ _ (c .loop-test .left))

@@ -1,0 +1,2 @@
+-- The definitions one step at a time, as the code goes.
+pub mod Outline

@@ -1,0 +1,3 @@
+mod Files
+mod System
+mod Claims

@@ -1,0 +1,71 @@
+-- One small system, and the files that claim something of it.
+--     Case, file, outline              a claim and its diagram, behind the system's records
+--     invariance, wait-for, chain      the three kinds
+--     claims, refuted                  a file has one outline: what it claims is what is claimed with that, true or false
+-- Assumes nothing.
+use mathlib.Core.Path.{_≡_, subst}
+use mathlib.Core.List.{List, [], _∷_, _++_, map, flatten}
+use Prim.Native.Nat.{ℕ, _+_}
+use lib.ListN.{length}
+use Rattle.parsing.specs.declared.Outline.{Outline}
+use Rattle.reading.specs.declared.Reading.{Reading}
+use Rattle.reading.specs.Read.{readOf}
+use Rattle.reading.proofs.Files
+use Rattle.reading.proofs.Files.{range, start, transition, assignment, property, node, constant, variable, plain, true}
+use Rattle.soundness.specs.System.{Claimed, Claim}
+
+-- ---- the system
+-- v is n
+abbrev pub is : ℕ → List (List ℕ)
+is n = Files.is 0 n
+
+-- v in 0..2, start v = 1. Transition 0, not just, guard true: v becomes v + 1. Transition 1, just, guard v = 0: v becomes v - 1.
+abbrev system : List (List ℕ)
+system =
+    (range 0 2 ∷ start ∷ is 1) ++
+    (transition 0 ∷ true ∷ assignment 0 ∷ plain 0x12 ∷ variable 0 ∷ constant 1 ∷ []) ++
+    (transition 1 ∷ is 0) ++ (assignment 0 ∷ plain 0x13 ∷ variable 0 ∷ constant 1 ∷ [])
+
+-- ---- the files
+-- the property with its expressions, the nodes' assertions, the edges
+pub record Case : Type 0 where
+  pub claim : List (List ℕ)
+  pub nodes : List (List (List ℕ))
+  pub edges : List (List ℕ)
+
+abbrev pub invariance : List (List ℕ) → List (List (List ℕ)) → Case
+invariance q nodes = record { claim = property 1 0 ∷ q; nodes = nodes; edges = [] }
+
+abbrev pub wait-for : List (List ℕ) → List (List (List ℕ)) → List (List (List ℕ)) → Case
+wait-for p qs nodes = record { claim = property 2 (length qs) ∷ p ++ flatten qs; nodes = nodes; edges = [] }
+
+abbrev pub chain : List (List ℕ) → List (List ℕ) → List (List (List ℕ)) → List (List ℕ) → Case
+chain p q nodes edges = record { claim = property 3 0 ∷ p ++ q; nodes = nodes; edges = edges }
+
+abbrev nodesOf : Case → List (List ℕ)
+nodesOf c = flatten (map (λ assertion. node ∷ assertion) (c .nodes))
+
+abbrev pub file : Case → List ℕ
+file c = flatten (system ++ c .claim ++ nodesOf c ++ c .edges)
+
+abbrev pub outline : Case → Outline
+outline c =
+    let place = length system in
+    let behind = place + length (c .claim) in
+    record {
+      vars = 1;
+      transition = 5;
+      transitions = 2;
+      property = place;
+      node = behind;
+      nodes = length (c .nodes);
+      edge = behind + length (nodesOf c);
+      edges = length (c .edges);
+    }
+
+-- ---- what is claimed
+pub claims : (c : Case) → readOf (file c) ≡ Reading.Readable (outline c) → Claimed (file c) (outline c) → Claim (file c)
+claims c r x = record { outline = outline c; readable = r; claimed = x }
+
+pub refuted : (c : Case) → readOf (file c) ≡ Reading.Readable (outline c) → (Claimed (file c) (outline c) → ⊥) → Claim (file c) → ⊥
+refuted c r untrue x = let e : x .outline ≡ outline c = cc (r, x .readable) in untrue (subst (Claimed (file c)) e (x .claimed))

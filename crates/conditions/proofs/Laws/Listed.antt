@@ -32,35 +32,35 @@ module _ (file : List ℕ) (o : Outline) where
 
   -- ---- the list of one kind
   module _ (opening : Condition) (covers from : ℕ) where
-    abbrev In : Condition → Type 0
-    In c = List·Memᴰ c (conditionsFrom file o opening covers from)
+    abbrev Among : Condition → Type 0
+    Among c = List·Memᴰ c (conditionsFrom file o opening covers from)
 
-    pub opening-in : In opening
+    pub opening-in : Among opening
     unfolding conditionsFrom
     opening-in = List·Memᴰ·head refl
 
-    pub cover-in : (n : ℕ) → n < covers → In (Cover n)
+    pub cover-in : (n : ℕ) → n < covers → Among (Cover n)
     unfolding conditionsFrom
     cover-in n l =
         List·Memᴰ·tail (Memᴰ·append-left (each (λ k. each (movesOf file o k) (o .transitions) 0) (o .nodes - from) from)
         (in-each (λ k. Cover k ∷ []) covers 0 n (omega arith) (omega arith) (List·Memᴰ·head refl)))
 
     module _ (n t : ℕ) (above : from ≤ n) (below : n < o .nodes) (there : t < o .transitions) where
-      move-in : (c : Condition) → List·Memᴰ c (movesOf file o n t) → In c
+      move-in : (c : Condition) → List·Memᴰ c (movesOf file o n t) → Among c
       unfolding conditionsFrom
       move-in c m =
           List·Memᴰ·tail (Memᴰ·append-right (each (λ k. Cover k ∷ []) covers 0)
           (in-each (λ k. each (movesOf file o k) (o .transitions) 0) (o .nodes - from) from n above (omega arith)
           (in-each (movesOf file o n) (o .transitions) 0 t (omega arith) (omega arith) m)))
 
-      pub range-in : In (Range n t)
+      pub range-in : Among (Range n t)
       unfolding movesOf
       range-in = move-in (Range n t) (List·Memᴰ·head refl)
 
-      pub step-in : In (Step n t)
+      pub step-in : Among (Step n t)
       unfolding movesOf
       step-in = move-in (Step n t) (List·Memᴰ·tail (List·Memᴰ·head refl))
 
-      pub enabling-in : isDouble file o n t ≡ true → In (Enabling n t)
+      pub enabling-in : isDouble file o n t ≡ true → Among (Enabling n t)
       unfolding movesOf
       enabling-in e = move-in (Enabling n t) (List·Memᴰ·tail (List·Memᴰ·tail (rw e (List·Memᴰ·head refl))))

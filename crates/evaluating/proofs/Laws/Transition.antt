@@ -47,9 +47,9 @@ Once [] = Unit {0}
 Once (a ∷ rest) = Unassigned (a .variable) rest × Once rest
 
 -- a variable is assigned this value
-pub data Assigns (v : ℕ) (x : ℤ) : List Assignment → Type 0 where
-  here : {a : Assignment} {rest : List Assignment} → a .variable ≡ v → a .value ≡ x → Assigns v x (a ∷ rest)
-  later : {a : Assignment} {rest : List Assignment} → Assigns v x rest → Assigns v x (a ∷ rest)
+pub data AssignedIn (v : ℕ) (x : ℤ) : List Assignment → Type 0 where
+  here : {a : Assignment} {rest : List Assignment} → a .variable ≡ v → a .value ≡ x → AssignedIn v x (a ∷ rest)
+  later : {a : Assignment} {rest : List Assignment} → AssignedIn v x rest → AssignedIn v x (a ∷ rest)
 
 pub assigned-rest : (v : ℕ) (list : List Assignment) (state : List ℤ) → Unassigned v list → getD (assigned list state) v (pos 0) ≡ getD state v (pos 0)
 unfolding assigned
@@ -57,12 +57,12 @@ assigned-rest v [] state u = refl
 assigned-rest v (a ∷ rest) state u =
     assigned-rest v rest (set state (a .variable) (a .value)) (u .1) ∙ getD-set-other state (a .variable) v (a .value) (pos 0) (u .0)
 
-pub assigned-value : (v : ℕ) (x : ℤ) (list : List Assignment) (state : List ℤ) → v < length state → Once list → Assigns v x list
+pub assigned-value : (v : ℕ) (x : ℤ) (list : List Assignment) (state : List ℤ) → v < length state → Once list → AssignedIn v x list
     → getD (assigned list state) v (pos 0) ≡ x
 unfolding assigned
-assigned-value v x (a ∷ rest) state l o (Assigns.here p q) =
+assigned-value v x (a ∷ rest) state l o (AssignedIn.here p q) =
     assigned-rest v rest (set state (a .variable) (a .value)) (subst (λ (w : ℕ). Unassigned w rest) p (o .0))
     ∙ subst (λ (w : ℕ). getD (set state w (a .value)) v (pos 0) ≡ x) (sym p) (getD-set-same state v (a .value) (pos 0) l ∙ q)
-assigned-value v x (a ∷ rest) state l o (Assigns.later m) =
+assigned-value v x (a ∷ rest) state l o (AssignedIn.later m) =
     let z : v < length (set state (a .variable) (a .value)) = rw length-set l in
     assigned-value v x rest (set state (a .variable) (a .value)) z (o .1) m

@@ -51,16 +51,16 @@ others t = (
 
 -- ---- the record at hand, once its kind is read
 module _ (t : ℕ) where
-  abbrev Opened : Type 0
-  Opened = analyse-lts.After-signature-of (others t) (analyse-at t) analyse.Post
+  abbrev AtRecord : Type 0
+  AtRecord = analyse-lts.After-signature-of (others t) (analyse-at t) analyse.Post
 
-  abbrev args : (s : Opened) → analyse-lts.Args (others t) (analyse-at t) analyse.Post (s .before .before .before .before .before .before .κs)
+  abbrev args : (s : AtRecord) → analyse-lts.Args (others t) (analyse-at t) analyse.Post (s .before .before .before .before .before .before .κs)
   args s = s .before .before .before .before .before .before .args
 
-  abbrev analysed : Opened → ℕ → ℕ → Analysis
+  abbrev analysed : AtRecord → ℕ → ℕ → Analysis
   analysed s levels at = analysisOf (now (args s .file)) levels at
 
-  record-analysed : (s : Opened)
+  record-analysed : (s : AtRecord)
       → analysed s (args s .levels) (args s .at)
       ≡ byOperands (now (args s .file)) (args s .at) (analysed s (args s .levels - 1)) (s .signature-of .result .operands)
   record-analysed s =

@@ -56,28 +56,28 @@ module _ (j : Interval) (e : ℕ) where
     abbrev joined : Interval → Interval → ℕ → Analysis
     joined i k end = ownOf (joinOf (kindAt file at) (formAt file at) i k) end at
 
-    abbrev Opened : Type 0
-    Opened = Bounded j × Analysed file levels at e j
+    abbrev OwnWithin : Type 0
+    OwnWithin = Bounded j × Analysed file levels at e j
 
-    one-opens : operands ≡ 1 → (w : Analysis) → operand (at + 1) ≡ w → andInterval w (λ i end. ownOf unit end at) ≡ Within j e → Opened
+    one-opens : operands ≡ 1 → (w : Analysis) → operand (at + 1) ≡ w → andInterval w (λ i end. ownOf unit end at) ≡ Within j e → OwnWithin
     one-opens n (Analysis.Within i end) is q =
         let o = own-opens unit end at q in
         (o .2, subst (Analysed file levels at e) (o .0) (one n (is ∙ ap (Within i) (o .1))))
     one-opens n (Analysis.Out place) is q = let z : _≡_ {A = ℕ} 0 1 = cc in absurd (omega arith)
 
     right-opens : operands ≡ 2 → (i : Interval) (mid : ℕ) → operand (at + 1) ≡ Within i mid → (w : Analysis) → operand mid ≡ w
-        → andInterval w (joined i) ≡ Within j e → Opened
+        → andInterval w (joined i) ≡ Within j e → OwnWithin
     right-opens n i mid left (Analysis.Within k end) is q =
         let o = own-opens (joinOf (kindAt file at) (formAt file at) i k) end at q in
         (o .2, subst (Analysed file levels at e) (o .0) (two n left (is ∙ ap (Within k) (o .1))))
     right-opens n i mid left (Analysis.Out place) is q = let z : _≡_ {A = ℕ} 0 1 = cc in absurd (omega arith)
 
     two-opens : operands ≡ 2 → (w : Analysis) → operand (at + 1) ≡ w → andInterval w (λ i next. andInterval (operand next) (joined i)) ≡ Within j e
-        → Opened
+        → OwnWithin
     two-opens n (Analysis.Within i mid) is q = right-opens n i mid is (operand mid) refl q
     two-opens n (Analysis.Out place) is q = let z : _≡_ {A = ℕ} 0 1 = cc in absurd (omega arith)
 
-    by-opens : (n : ℕ) → operands ≡ n → n ≤ 2 → byOperands file at operand n ≡ Within j e → Opened
+    by-opens : (n : ℕ) → operands ≡ n → n ≤ 2 → byOperands file at operand n ≡ Within j e → OwnWithin
     unfolding byOperands
     by-opens zero n l q =
         let o = own-opens (leafOf file at (formAt file at)) (at + 1) at q in

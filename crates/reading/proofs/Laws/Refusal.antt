@@ -53,28 +53,28 @@ module _ (file : List ℕ) where
   count = length file / 8
 
   -- what goes out is a record of the file, or the record count
-  abbrev Outside : Analysis → Type 0
-  Outside a = (place : ℕ) → a ≡ Analysis.Out place → place ≤ count
+  abbrev OutWithin : Analysis → Type 0
+  OutWithin a = (place : ℕ) → a ≡ Analysis.Out place → place ≤ count
 
-  record-outside : (at : ℕ) → at ≤ count → Outside (Analysis.Out at)
+  record-outside : (at : ℕ) → at ≤ count → OutWithin (Analysis.Out at)
   record-outside at l place e = let z : at ≡ place = cc in omega arith
 
-  by-outside : (b : Bool) {x y : Analysis} → (b ≡ true → Outside x) → (b ≡ false → Outside y) → Outside (cond b x y)
+  by-outside : (b : Bool) {x y : Analysis} → (b ≡ true → OutWithin x) → (b ≡ false → OutWithin y) → OutWithin (cond b x y)
   by-outside true h k = h refl
   by-outside false h k = k refl
 
-  own-outside : (i : Interval) (end at : ℕ) → at ≤ count → Outside (ownOf i end at)
+  own-outside : (i : Interval) (end at : ℕ) → at ≤ count → OutWithin (ownOf i end at)
   unfolding ownOf
   own-outside i end at l =
       by-outside (inBounds i) (λ b place e. let z : _≡_ {A = ℕ} 0 1 = cc in absurd (omega arith)) (λ b. record-outside at l)
 
-  and-outside : (a : Analysis) {next : Interval → ℕ → Analysis} → Outside a → ((i : Interval) (end : ℕ) → a ≡ Analysis.Within i end → Outside (next i end))
-      → Outside (andInterval a next)
+  and-outside : (a : Analysis) {next : Interval → ℕ → Analysis} → OutWithin a → ((i : Interval) (end : ℕ) → a ≡ Analysis.Within i end → OutWithin (next i end))
+      → OutWithin (andInterval a next)
   and-outside (Analysis.Within i end) h k = k i end refl
   and-outside (Analysis.Out place) h k = h
 
-  module _ (levels : ℕ) (h : (x : ℕ) → x ≤ count → Outside (analysisOf file levels x)) where
-    operands-outside : (at : ℕ) → at < count → (n : ℕ) → Outside (byOperands file at (analysisOf file levels) n)
+  module _ (levels : ℕ) (h : (x : ℕ) → x ≤ count → OutWithin (analysisOf file levels x)) where
+    operands-outside : (at : ℕ) → at < count → (n : ℕ) → OutWithin (byOperands file at (analysisOf file levels) n)
     unfolding byOperands
     operands-outside at l zero = own-outside (leafOf file at (formAt file at)) (at + 1) at (omega arith)
     operands-outside at l (suc zero) =
@@ -85,14 +85,14 @@ module _ (file : List ℕ) where
         and-outside (analysisOf file levels next) (h next (analysis-within file levels (at + 1) next i e))
         (λ k end f. own-outside (joinOf (kindAt file at) (formAt file at) i k) end at (omega arith)))
 
-  analysis-outside : (levels at : ℕ) → at ≤ count → Outside (analysisOf file levels at)
+  analysis-outside : (levels at : ℕ) → at ≤ count → OutWithin (analysisOf file levels at)
   unfolding analysisOf
   analysis-outside zero at l = record-outside at l
   analysis-outside (suc levels) at l =
       by-outside (ltb at count)
       (λ b. operands-outside levels (analysis-outside levels) at (ltb-true _ _ b) (signatureAt file at .operands)) (λ b. record-outside at l)
 
-  expression-refuses : (a : Analysis) {next : ℕ → Walked} → Outside a
+  expression-refuses : (a : Analysis) {next : ℕ → Walked} → OutWithin a
       → ((i : Interval) (end : ℕ) → a ≡ Analysis.Within i end → Refuses Walked.Refused count (next end)) → Refuses Walked.Refused count (andExpression a next)
   expression-refuses (Analysis.Within i end) h k = k i end refl
   expression-refuses (Analysis.Out place) h k = refused walked 8 place (omega arith) (h place refl)

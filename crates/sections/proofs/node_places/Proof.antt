@@ -1,4 +1,4 @@
--- `sections::node_places` meets its contract: the entries before i are filled, and the node that is next stands where those before it end.
+-- `sections::node_places`: the entries before i are filled, and the node that is next stands where those before it end.
 -- Assumes nothing.
 use borrow.Author.Needs.{needs}
 use native.Mathlib.Omega.{arith}
@@ -39,7 +39,9 @@ enum-told : tie.Need-enum-told Inv-loop μ-loop
 enum-told c = search needs
 
 returns : tie.Need-returns Inv-loop μ-loop
-returns c = filled-refused _ _ _ _ _ _ (c .before .before .before .before .loop .inv .0) (c .before .before .before .loop-test .taken) _ _ (sym (c .before .before .walk .ensures) ∙ c .enum-told .given .1)
+returns c =
+    let refused = sym (c .before .before .walk .ensures) ∙ c .enum-told .given .1 in
+    filled-refused _ _ _ _ _ _ (c .before .before .before .before .loop .inv .0) (c .before .before .before .loop-test .taken) _ _ refused
 
 add-i : tie.Need-add-i Inv-loop μ-loop
 add-i c = omega arith
@@ -48,7 +50,10 @@ loop-less : tie.Need-loop-less Inv-loop μ-loop
 loop-less c = omega arith
 
 loop-again : tie.Need-loop-again Inv-loop μ-loop
-loop-again c = (filled-more _ _ _ _ _ _ (c .before .before .before .before .before .loop .inv .0) (c .before .before .before .before .loop-test .taken) _ (sym (c .before .before .before .walk .ensures) ∙ c .before .item .given .1), walk-bound _ _ _ _ _ _ (sym (c .before .before .before .walk .ensures) ∙ c .before .item .given .1) .1)
+loop-again c =
+    let turn = c .before .before .before .before in
+    let ends = sym (c .before .before .before .walk .ensures) ∙ c .before .item .given .1 in
+    (filled-more _ _ _ _ _ _ (turn .before .loop .inv .0) (turn .loop-test .taken) _ ends, walk-bound _ _ _ _ _ _ ends .1)
 
 returns-2 : tie.Need-returns-2 Inv-loop μ-loop
 returns-2 c = filled-done _ _ _ _ _ _ (c .before .loop .inv .0) (c .loop-test .left)

@@ -1,4 +1,4 @@
--- `sections::transition_places` meets its contract: the entries before i are filled, and the transition that is next stands where those before it end.
+-- `sections::transition_places`: the entries before i are filled, and the transition that is next stands where those before it end.
 -- Assumes nothing.
 use borrow.Author.Needs.{needs}
 use native.Mathlib.Omega.{arith}
@@ -36,7 +36,9 @@ enum-told : tie.Need-enum-told Inv-loop μ-loop
 enum-told c = search needs
 
 returns : tie.Need-returns Inv-loop μ-loop
-returns c = filled-refused _ _ _ _ _ _ (c .before .before .before .before .loop .inv .0) (c .before .before .before .loop-test .taken) _ _ (sym (c .before .before .transition .ensures) ∙ c .enum-told .given .1)
+returns c =
+    let refused = sym (c .before .before .transition .ensures) ∙ c .enum-told .given .1 in
+    filled-refused _ _ _ _ _ _ (c .before .before .before .before .loop .inv .0) (c .before .before .before .loop-test .taken) _ _ refused
 
 add-i : tie.Need-add-i Inv-loop μ-loop
 add-i c = omega arith
@@ -45,7 +47,10 @@ loop-less : tie.Need-loop-less Inv-loop μ-loop
 loop-less c = omega arith
 
 loop-again : tie.Need-loop-again Inv-loop μ-loop
-loop-again c = (filled-more _ _ _ _ _ _ (c .before .before .before .before .before .loop .inv .0) (c .before .before .before .before .loop-test .taken) _ (sym (c .before .before .before .transition .ensures) ∙ c .before .item .given .1), transition-bound _ _ _ _ (sym (c .before .before .before .transition .ensures) ∙ c .before .item .given .1) .1)
+loop-again c =
+    let turn = c .before .before .before .before in
+    let ends = sym (c .before .before .before .transition .ensures) ∙ c .before .item .given .1 in
+    (filled-more _ _ _ _ _ _ (turn .before .loop .inv .0) (turn .loop-test .taken) _ ends, transition-bound _ _ _ _ ends .1)
 
 returns-2 : tie.Need-returns-2 Inv-loop μ-loop
 returns-2 c = filled-done _ _ _ _ _ _ (c .before .loop .inv .0) (c .loop-test .left)

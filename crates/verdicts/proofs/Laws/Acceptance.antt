@@ -15,7 +15,7 @@ use native.Mathlib.Numerals.{add-one}
 use native.Mathlib.Omega.{arith}
 use borrow.Author.Tests.{lt-ltb, le-ltb, eqb-true, eqb-false, eq-eqb, ne-eqb}
 use lib.ListN.{getD}
-use lib.Dec.{eqb, ltb}
+use lib.Dec.{eqb}
 use lib.IntN.{ℤ}
 use Rattle.parsing.specs.declared.Outline.{Outline}
 use Rattle.records.specs.Record.{fieldA, fieldB, fieldC}
@@ -39,7 +39,8 @@ use Rattle.conditions.specs.Layout.{openingOf, layoutOf}
 use Rattle.testing.specs.Testing.{nodePlaces, transitionPlaces}
 use Rattle.verdicts.specs.Verdict.{stateCount, stateAt, isTrue}
 use Rattle.conditions.specs.Edges.{pairAt}
-use Rattle.verdicts.specs.Acceptance.{allHold, blockOf, blockHolds, trueBlocksOf, heldStatesOf, conditionsIn, edgeMarksOf, doubleMarksOf, qPlacesOf, openingAt, heldNodesOf}
+use Rattle.verdicts.specs.Acceptance.{allHold, blockOf, blockHolds, trueBlocksOf, heldStatesOf}
+use Rattle.verdicts.specs.Acceptance.{conditionsIn, edgeMarksOf, doubleMarksOf, qPlacesOf, openingAt, heldNodesOf}
 use Rattle.verdicts.specs.Acceptance.{openingHolds, coversHold, reachedOf, pairHolds, nodesHold, transitionsHold}
 use Rattle.verdicts.specs.Acceptance.{NodesFit, PlacesFit, PassFits, Searched, Begun}
 use Rattle.conditions.specs.declared.Condition.{Condition}

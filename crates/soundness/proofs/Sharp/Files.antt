@@ -42,11 +42,11 @@ wait-for p qs nodes = record { claim = property 2 (length qs) ∷ p ++ flatten q
 abbrev pub chain : List (List ℕ) → List (List ℕ) → List (List (List ℕ)) → List (List ℕ) → Case
 chain p q nodes edges = record { claim = property 3 0 ∷ p ++ q; nodes = nodes; edges = edges }
 
-abbrev nodesOf : Case → List (List ℕ)
-nodesOf c = flatten (map (λ assertion. node ∷ assertion) (c .nodes))
+abbrev nodeRecords : Case → List (List ℕ)
+nodeRecords c = flatten (map (λ assertion. node ∷ assertion) (c .nodes))
 
 abbrev pub file : Case → List ℕ
-file c = flatten (system ++ c .claim ++ nodesOf c ++ c .edges)
+file c = flatten (system ++ c .claim ++ nodeRecords c ++ c .edges)
 
 abbrev pub outline : Case → Outline
 outline c =
@@ -59,7 +59,7 @@ outline c =
       property = place;
       node = behind;
       nodes = length (c .nodes);
-      edge = behind + length (nodesOf c);
+      edge = behind + length (nodeRecords c);
       edges = length (c .edges);
     }
 

@@ -4,7 +4,7 @@
 --     marked-hit, marked-miss, marked-end          an edge is carried, or not; all are tried
 -- Assumes nothing.
 use mathlib.Core.Path.{_≡_, refl, sym, ap, subst, _∙_}
-use mathlib.Core.Bool.{Bool, true, false, cond, _&&_, _||_}
+use mathlib.Core.Bool.{Bool, true, false, cond, _&&_, _||_, or-false}
 use mathlib.Core.List.{List}
 use Prim.Native.Nat.{ℕ, _+_, _*_, _≤_, _<_}
 use native.Mathlib.Numerals.{add-one}
@@ -72,11 +72,6 @@ mark-more false true r = refl
 mark-more false false true = refl
 mark-more false false false = refl
 
-mark-same : (a r : Bool) → (a || r) ≡ (a || (r || false))
-mark-same true r = refl
-mark-same false true = refl
-mark-same false false = refl
-
 module _ (size : ℕ) (keep : Bool) (n edges edge : ℕ) (carried : ℕ → Bool) (to : ℕ → ℕ) where
   -- the marks that the first e edges make
   pub record Marked (marks : List Bool) (e : ℕ) : Type 0 where
@@ -123,8 +118,7 @@ module _ (size : ℕ) (keep : Bool) (n edges edge : ℕ) (carried : ℕ → Bool
             long = k .long;
             each = λ j m.
                 k .each j m
-                ∙ mark-same (keep && eqb j n) (any (λ x. carried x && eqb (to x) j) e edge)
-                ∙ ap (λ (b : Bool). (keep && eqb j n) || b) (next j);
+                ∙ ap (λ (b : Bool). (keep && eqb j n) || b) (sym (or-false (any (λ x. carried x && eqb (to x) j) e edge)) ∙ next j);
           }
         where
           next : (j : ℕ) → (any (λ x. carried x && eqb (to x) j) e edge || false) ≡ any (λ x. carried x && eqb (to x) j) (e + 1) edge

@@ -27,6 +27,7 @@ use Rattle.conditions.specs.Edges.{isDouble}
 use Rattle.testing.specs.Diagram.{nodeAt, nodeHolds, startHolds, claimedAt, pHolds, qAt, qHolds}
 use Rattle.conditions.specs.Condition.{Listed}
 use Rattle.truths.specs.Truth.{implies}
+use Rattle.truths.proofs.Laws.Truth.{implies-both, implies-own}
 use Rattle.testing.specs.Holding.{guardHolds, valuesFit, isEnabled, nextState, someNode, someTarget, conditionHolds}
 use Rattle.testing.specs.declared.Test.{Test}
 use Rattle.testing.specs.Testing.{marksOf, chosenFrom, targetsOf, chosenOf, nodePlaces, preparedOf, testOf, someHolds, concludesOf, passesOf}
@@ -37,19 +38,6 @@ use Rattle.testing.specs.declared.Conclusion.{Conclusion}
 use Rattle.conditions.proofs.Laws.Condition.{Parts, listed-parts}
 use Rattle.testing.proofs.Laws.Targets.{chosen-most, chosen-each, some-node, some-reached, node-at}
 use Rattle.testing.proofs.Laws.Targets.{node-stands, transition-stands, claimed-stands, first-claimed, q-claimed}
-
--- ---- truths
-implies-both : (p q r : Bool) → implies p (implies q r) ≡ implies (p && q) r
-unfolding implies
-implies-both true q r = refl
-implies-both false q r = refl
-
--- a true guard goes with values in range
-implies-range : (p g v : Bool) → implies p (implies g (g && v)) ≡ implies (p && g) v
-unfolding implies
-implies-range true true v = refl
-implies-range true false v = refl
-implies-range false g v = refl
 
 -- ---- a test of a list of places
 module _ (lows highs : List ℤ) (file : List ℕ) (premise transition : ℕ) (list : List ℕ) where
@@ -116,7 +104,7 @@ module _ (file : List ℕ) (o : Outline) (r : readOf file ≡ Reading.Readable o
     says-range : (n t : ℕ) → passesOf lows highs file (testOf file o (Range n t)) state ≡ conditionHolds file o (Range n t) state
     unfolding testOf conditionHolds passesOf preparedOf concludesOf nodeHolds guardHolds valuesFit enabledOf
     says-range n t =
-        implies-range (holdsOf file (nodeAt file o n + 1) state) (guardOf file (transitionAt file o t) state)
+        implies-own (holdsOf file (nodeAt file o n + 1) state) (guardOf file (transitionAt file o t) state)
         (allInRange lows highs (assignmentList file (transitionAt file o t) state))
 
     says : (c : Condition) → Parts file o c → passesOf lows highs file (testOf file o c) state ≡ conditionHolds file o c state

@@ -3,8 +3,10 @@
 --     is-true, so-true, is-false, so-false     `T b` and `b ≡ true` say the same, `T (not b)` and `b ≡ false` too
 --     same-truth                      truths that imply each other are equal
 --     implied, implies-or             what a true premise implies is true; the implication as a disjunction
+--     implies-idle, implies-asked     an implication, by its premise
+--     implies-both, implies-own       an implication of an implication
 --     both, left, right, either       conjunctions and disjunctions of truths
---     and-first, and-second           a conjunction with a false part is false
+--     and-first, and-second, and-asked     a conjunction with a false part is false; with a true one it is the other
 --     or-first, or-second, or-other, or-cases, or-neither     a disjunction is true by a part, and false where neither is true
 -- Assumes nothing.
 use mathlib.Core.Path.{_≡_, refl, sym}
@@ -50,6 +52,26 @@ unfolding implies
 implies-or true b = refl
 implies-or false b = refl
 
+pub implies-idle : {a : Bool} (b : Bool) → a ≡ false → implies a b ≡ true
+unfolding implies
+implies-idle b e = rw e
+
+pub implies-asked : {a b : Bool} (c : Bool) → a ≡ true → b ≡ c → implies a b ≡ c
+unfolding implies
+implies-asked c e f = rw (e, f)
+
+pub implies-both : (a b c : Bool) → implies a (implies b c) ≡ implies (a && b) c
+unfolding implies
+implies-both true b c = refl
+implies-both false b c = refl
+
+-- what is implied may repeat the premise
+pub implies-own : (a b c : Bool) → implies a (implies b (b && c)) ≡ implies (a && b) c
+unfolding implies
+implies-own true true c = refl
+implies-own true false c = refl
+implies-own false b c = refl
+
 -- ---- conjunctions
 pub both : (a b : Bool) → T a → T b → T (a && b)
 both true b t u = u
@@ -69,6 +91,9 @@ and-first a b e = rw e
 pub and-second : (a b : Bool) → b ≡ false → (a && b) ≡ false
 and-second true b e = e
 and-second false b e = refl
+
+pub and-asked : {a b : Bool} (c : Bool) → a ≡ true → b ≡ c → (a && b) ≡ c
+and-asked c e f = rw (e, f)
 
 -- ---- disjunctions
 pub either : (a b : Bool) → T (a || b) → T a ⊎ T b

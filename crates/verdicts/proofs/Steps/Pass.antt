@@ -13,7 +13,6 @@ use Rattle.evaluating.specs.declared.Stepped.{Stepped}
 use Rattle.expressions.specs.Expression.{holdsOf}
 use Rattle.states.specs.State.{Within}
 use Rattle.evaluating.specs.Transition.{stepOf}
-use Rattle.truths.specs.Truth.{implies}
 use Rattle.verdicts.specs.Acceptance.{reachedOf, pairHolds}
 use Rattle.truths.proofs.Laws.Every.{every-true, every-false}
 use Rattle.truths.proofs.Laws.Any.{none-passes, any-at}
@@ -56,21 +55,6 @@ module _ {test : ℕ → Bool} {at n end i : ℕ} (h : Passed test false at n en
   passed-some l e =
       let same : at + (i - at) ≡ i = omega (arith, h .begun) in
       sym (any-at test n at (i - at) (omega (arith, h .whole, h .begun)) (rw same e))
-
--- ---- one number
-pub implies-idle : {p : Bool} (q : Bool) → p ≡ false → implies p q ≡ true
-unfolding implies
-implies-idle q e = rw e
-
-pub implies-asked : {p q : Bool} (b : Bool) → p ≡ true → q ≡ b → implies p q ≡ b
-unfolding implies
-implies-asked b e f = rw (e, f)
-
-pub both-idle : {p : Bool} (q : Bool) → p ≡ false → (p && q) ≡ false
-both-idle q e = rw e
-
-pub both-asked : {p q : Bool} (b : Bool) → p ≡ true → q ≡ b → (p && q) ≡ b
-both-asked b e f = rw (e, f)
 
 -- ---- a pair
 module _ (file nodes : List ℕ) (marks : List Bool) (node pair : ℕ) (double : Bool) (count : ℕ) (s : Stepped) where

@@ -10,7 +10,8 @@ use borrow.Author.Tests.{not-true, not-false}
 use Rattle.expressions.specs.Expression.{holdsOf}
 use Rattle.truths.specs.Truth.{implies}
 use Rattle.verdicts.specs.Acceptance.{coversHold}
-use Rattle.verdicts.proofs.Steps.Pass.{Passed, passed-begin, passed-more, passed-all, passed-fails, implies-idle, implies-asked}
+use Rattle.truths.proofs.Laws.Truth.{implies-idle, implies-asked}
+use Rattle.verdicts.proofs.Steps.Pass.{Passed, passed-begin, passed-more, passed-all, passed-fails}
 use Rattle.verdicts.proofs.acceptance.covers_hold.Statement.{statement}
 use Rattle.verdicts.proofs.acceptance.covers_hold.Tie as tie
 

@@ -7,7 +7,8 @@ use lib.ListN.{getD}
 use borrow.Author.Needs.{needs}
 use borrow.Author.Tests.{not-true, not-false}
 use Rattle.verdicts.specs.Acceptance.{openingHolds}
-use Rattle.verdicts.proofs.Steps.Pass.{Passed, passed-begin, passed-more, passed-none, passed-some, implies-idle, implies-asked}
+use Rattle.truths.proofs.Laws.Truth.{implies-idle, implies-asked}
+use Rattle.verdicts.proofs.Steps.Pass.{Passed, passed-begin, passed-more, passed-none, passed-some}
 use Rattle.verdicts.proofs.acceptance.opening_holds.Statement.{statement}
 use Rattle.verdicts.proofs.acceptance.opening_holds.Tie as tie
 

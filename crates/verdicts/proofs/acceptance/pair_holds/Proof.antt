@@ -5,7 +5,8 @@ use mathlib.Core.Logic.{⊎-elim}
 use native.Mathlib.Omega.{arith}
 use borrow.Author.Needs.{needs}
 use borrow.Author.Tests.{not-true, not-false}
-use Rattle.verdicts.proofs.Steps.Pass.{both-idle, both-asked, pair-idle, pair-kept, pair-left}
+use Rattle.truths.proofs.Laws.Truth.{and-first, and-asked}
+use Rattle.verdicts.proofs.Steps.Pass.{pair-idle, pair-kept, pair-left}
 use Rattle.verdicts.proofs.acceptance.pair_holds.Statement.{statement}
 use Rattle.verdicts.proofs.acceptance.pair_holds.Tie as tie
 
@@ -28,7 +29,7 @@ returns-2 : tie.Need-returns-2
 returns-2 c =
     let d = c .before .before .before in
     pair-kept _ _ _ _ _ _ _ _ (not-false _ (d .before .before .if1 .left))
-    (both-asked _ (d .if2 .taken) (sym (c .before .holds .ensures) ∙ c .if3 .taken))
+    (and-asked _ (d .if2 .taken) (sym (c .before .holds .ensures) ∙ c .if3 .taken))
 
 reached-requires : tie.Need-reached-requires
 reached-requires c κs = search needs
@@ -37,7 +38,7 @@ returns-3 : tie.Need-returns-3
 returns-3 c =
     c .reached .ensures
     ∙ pair-left _ _ _ _ _ _ _ _ (not-false _ (c .before .before .before .if1 .left))
-    (⊎-elim (λ w. both-asked _ (w .0 .taken) (sym (w .2 .ensures) ∙ w .3 .left)) (λ w. both-idle _ (w .left)) (c .before .if2 .came))
+    (⊎-elim (λ w. and-asked _ (w .0 .taken) (sym (w .2 .ensures) ∙ w .3 .left)) (λ w. and-first _ _ (w .left)) (c .before .if2 .came))
 
 pub pair-holds-spec : {M : Type 1} → statement M
 pair-holds-spec =

@@ -9,7 +9,8 @@ use lib.ListN.{getD}
 use borrow.Author.Needs.{needs}
 use Rattle.expressions.specs.Expression.{holdsOf}
 use Rattle.verdicts.specs.Acceptance.{reachedOf}
-use Rattle.verdicts.proofs.Steps.Pass.{Passed, passed-begin, passed-more, passed-none, passed-some, both-idle, both-asked}
+use Rattle.truths.proofs.Laws.Truth.{and-first, and-asked}
+use Rattle.verdicts.proofs.Steps.Pass.{Passed, passed-begin, passed-more, passed-none, passed-some}
 use Rattle.verdicts.proofs.acceptance.reached.Statement.{statement}
 use Rattle.verdicts.proofs.acceptance.reached.Tie as tie
 
@@ -51,7 +52,7 @@ unfolding reachedOf
 returns c =
     let d = c .before .before .before in
     passed-some (d .before .before .before .loop .inv) (d .before .before .loop-test .taken)
-    (both-asked _ (d .if1 .taken) (sym (c .before .holds .ensures) ∙ c .if2 .taken))
+    (and-asked _ (d .if1 .taken) (sym (c .before .holds .ensures) ∙ c .if2 .taken))
 
 add-n : tie.Need-add-n Inv-loop μ-loop
 add-n c = search needs
@@ -62,7 +63,7 @@ loop-less c = search needs
 loop-again : tie.Need-loop-again Inv-loop μ-loop
 loop-again c =
     passed-more (c .before .before .before .loop .inv) (c .before .before .loop-test .taken)
-    (⊎-elim (λ w. both-asked _ (w .0 .taken) (sym (w .2 .ensures) ∙ w .3 .left)) (λ w. both-idle _ (w .left)) (c .if1 .came))
+    (⊎-elim (λ w. and-asked _ (w .0 .taken) (sym (w .2 .ensures) ∙ w .3 .left)) (λ w. and-first _ _ (w .left)) (c .if1 .came))
 
 returns-2 : tie.Need-returns-2 Inv-loop μ-loop
 unfolding reachedOf

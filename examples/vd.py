@@ -2,10 +2,11 @@
 """Builds files of the verification diagram checker, prints them, and says what a report means.
 
     python3 vd.py FILE                  prints a file as text
-    python3 vd.py --report HEX [FILE]   says in words what the 64 digits of a report mean
+    python3 vd.py --report HEX [FILE]   says in words what the 64 digits of a report mean,
+                                        with --tests N also the tests that the checker counts
 
 FILE or HEX may be -, for standard input. The exit status is 1 if the file cannot be read to its
-end or does not go with the report, and 2 if there is nothing to work on.
+end or does not go with the report or the tests, and 2 if there is nothing to work on.
 
 A file is built from expressions in Python:
 
@@ -36,7 +37,7 @@ from collections import namedtuple
 
 __all__ = ["System", "Diagram", "invariance", "wait_for", "chain", "true", "false", "all_of",
            "any_of", "total", "Reading", "Names", "lines", "Report", "accepted", "refused",
-           "broken", "explain", "Mismatch"]
+           "broken", "tests_of", "explain", "Mismatch"]
 
 # Limits of a file.
 BYTES, VARIABLES, TRANSITIONS, NODES, EDGES, LEVELS, STATES = 32768, 12, 32, 32, 512, 16, 1048576
@@ -252,10 +253,7 @@ class System:
         raise KeyError(name)
 
     def states(self):
-        count = 1
-        for v in self.variables:
-            count *= v.high - v.low + 1
-        return count
+        return state_count([(v.low, v.high) for v in self.variables])
 
     def names(self):
         return Names([v.name for v in self.variables], [t.name for t in self.transitions])
@@ -569,6 +567,23 @@ def lines(reading, names=Names()):
         yield "stops at record %d: %s" % (reading.stop.record, reading.stop.reason)
 
 
+# ---- states by number
+
+def state_count(ranges):
+    count = 1
+    for low, high in ranges:
+        count *= high - low + 1
+    return count
+
+
+def state_number(state, ranges):
+    """The last variable is the fastest, each variable's low end comes first."""
+    number = 0
+    for x, (low, high) in zip(state, ranges):
+        number = number * (high - low + 1) + x - low
+    return number
+
+
 # ---- evaluating
 
 def value(e, state):
@@ -714,13 +729,33 @@ def edge_fault(reading, index):
     return None
 
 
+def tests_of(report, reading):
+    """How many tests lead to the report, of one condition after the other, at one state after the
+    other: of all conditions at all states, or up to the state that breaks one."""
+    if 0 < report.number < STARTS:
+        return 0
+    before = report.at * state_count(reading.variables)
+    return before if report.number == 0 else \
+        before + state_number(report.values, reading.variables) + 1
+
+
 class Mismatch(Exception):
-    """The report does not go with the file."""
+    """The report, or the number of tests, does not go with the file."""
 
 
-def explain(report, reading=None, names=Names()):
-    """What the report means, as a list of lines; with the file, also why. Raises Mismatch if the
-    report cannot be this file's."""
+def explain(report, reading=None, names=Names(), tests=None):
+    """What the report means, as a list of lines; with the file, also why; with the tests, also
+    these, where there are any. Raises Mismatch if the report or the tests cannot be this file's."""
+    out = _explain(report, reading, names)
+    if tests is None:
+        return out
+    if reading and tests != tests_of(report, reading):
+        raise Mismatch("this file and report go with {:,} tests, not {:,}".format(
+            tests_of(report, reading), tests))
+    return out + ["{:,} test{}".format(tests, "s" * (tests > 1))] * (tests > 0)
+
+
+def _explain(report, reading, names):
     if report.number == 0:
         if reading and (reading.stop or report.at != len(list(conditions(reading)))):
             raise Mismatch("the report has a total of %d conditions, the file has %s"
@@ -754,9 +789,7 @@ def _place(report, reading, names):
         raise Mismatch("the report says %d, but the file stops at record %d: %s"
                        % (report.number, stop.record, stop.reason))
     if report.number == 7 and at < len(reading.variables):
-        count = 1
-        for low, high in reading.variables[:at + 1]:
-            count *= high - low + 1
+        count = state_count(reading.variables[:at + 1])
         if count > STATES:
             return "the ranges up to that of %s make %d states" % (names.variable(at), count)
     if report.number == 8 and isinstance(reading.expressions.get(at), Number):
@@ -857,12 +890,16 @@ def _input(path):
 def main(arguments):
     parser = argparse.ArgumentParser(
         prog="vd.py", description="Prints a file of the verification diagram checker as text, or "
-        "says in words what a report means.", usage="vd.py FILE\n       vd.py --report HEX [FILE]")
+        "says in words what a report means.",
+        usage="vd.py FILE\n       vd.py --report HEX [--tests N] [FILE]")
     parser.add_argument("--report", metavar="HEX", help="the 64 digits that the checker printed")
+    parser.add_argument("--tests", metavar="N", type=int, help="the tests that it printed")
     parser.add_argument("file", nargs="?", metavar="FILE", help="- is standard input")
     options = parser.parse_args(arguments)
     if options.report is None and options.file is None:
         parser.error("no file is named")
+    if options.tests is not None and (options.report is None or options.tests < 0):
+        parser.error("--tests is a number from 0 up that goes with a report")
     if options.report == options.file == "-":
         parser.error("the report and the file cannot both be standard input")
     try:
@@ -881,7 +918,7 @@ def main(arguments):
         print("\n".join(lines(reading)))
         return 1 if reading.stop else 0
     try:
-        print("\n".join(explain(report, reading)))
+        print("\n".join(explain(report, reading, tests=options.tests)))
     except Mismatch as mismatch:
         print("vd.py: %s" % mismatch, file=sys.stderr)
         return 1

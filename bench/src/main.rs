@@ -101,17 +101,27 @@ impl Row {
     }
 }
 
-/// A verdict's number, condition or how many there are, and values of the breaking state.
-type Verdict = (u8, usize, [i16; 12]);
+/// A verdict's number, condition or how many there are, values of the breaking state, and tests.
+type Verdict = (u8, usize, [i16; 12], u64);
 
 fn proved(file: &[u8]) -> Verdict {
     let verdict = vd::check(file);
-    (verdict.number, verdict.at as usize, verdict.values)
+    (
+        verdict.number,
+        verdict.at as usize,
+        verdict.values,
+        verdict.tests,
+    )
 }
 
 fn independent(file: &[u8]) -> Verdict {
     let verdict = independent::check(file, &mut [0; 32]);
-    (verdict.number, verdict.at as usize, verdict.values)
+    (
+        verdict.number,
+        verdict.at as usize,
+        verdict.values,
+        verdict.tests,
+    )
 }
 
 /// The state of that number: the last variable is fastest.
@@ -140,14 +150,15 @@ fn timed_refused(file: &[u8], state: usize, repetitions: usize) -> Row {
 fn compared(file: &[u8], broken: Option<usize>, repetitions: usize) -> Row {
     let read = independent::read(file).expect("a readable file");
     let (conditions, states) = (read.conditions().len(), read.states());
-    let (verdict, tests) = match broken {
-        None => ((0, conditions, [0; 12]), conditions * states),
+    let (number, at, values, tests) = match broken {
+        None => (0, conditions, [0; 12], conditions * states),
         Some(state) => {
             let last = conditions - 1;
             let values = numbered(&read.variables, state);
-            ((17, last, values), last * states + state + 1)
+            (17, last, values, last * states + state + 1)
         }
     };
+    let verdict = (number, at, values, tests as u64);
     let times = (TESTS / tests).max(1);
     let mut least = [Duration::MAX; 2];
     for _ in 0..repetitions {

@@ -4,6 +4,7 @@
        ./example < examples/b.vd */
 #include "vd.h"
 
+#include <inttypes.h>
 #include <stdio.h>
 
 int main(void) {
@@ -17,7 +18,7 @@ int main(void) {
     uint8_t report[VD_REPORT];
     struct vd_verdict verdict = vd_check(file, length, report, sizeof report);
     if (verdict.number == 0) {
-        printf("accepted: all %u conditions are true at every state\n", (unsigned) verdict.at);
+        printf("accepted: all %u conditions are true at every state, %" PRIu64 " tests\n", (unsigned) verdict.at, verdict.tests);
         return 0;
     }
     if (verdict.number < 13) {
@@ -28,6 +29,6 @@ int main(void) {
            verdict.transition);
     for (int i = 0; i < 12; i++)
         printf(" %d", verdict.values[i]);
-    putchar('\n');
+    printf(", %" PRIu64 " tests\n", verdict.tests);
     return 1;
 }

@@ -20,13 +20,15 @@ extern "C" {
 /* The bytes of a report. */
 #define VD_REPORT 32
 
-/* The check's result, with the fields of the report. */
+/* The check's result: the fields of the report, and the tests. */
 struct vd_verdict {
     uint8_t number;     /* 0 for an accepted file, else the refusal's number */
     uint8_t node;       /* the broken condition's node, 255 for none */
     uint8_t transition; /* and its transition */
     uint32_t at;        /* the broken condition, the refusal's place, or for 0 how many conditions there are */
-    int16_t values[12]; /* the state that breaks the condition, else zeros */
+    int16_t values[12]; /* the lowest-numbered state that breaks the condition, else zeros */
+    uint64_t tests;     /* how many tests of a condition at a state the check's definition makes, condition by condition, state by state: conditions
+                           times states for 0; up to the state named, with it, for a broken condition; 0 where no condition is tested */
 };
 
 /* What a single test answers. */

@@ -26,12 +26,14 @@ class Example:
         self.file = diagram.to_bytes() if file is None else file
 
     def text(self):
-        """What stands beside the file: the words, the report in words, the report, the file."""
+        """What stands beside the file: the words, the report in words, the report, the tests, the
+        file."""
         names, reading = self.diagram.system.names(), vd.Reading(self.file)
+        tests = vd.tests_of(self.answer, reading)
         parts = [wrapped(paragraph) for paragraph in self.words]
         parts.append("The report in words:")
         parts.append("\n".join(wrapped(line, "    ", "        ")
-                               for line in vd.explain(self.answer, reading, names)))
-        parts.append("answer: " + self.answer.hex())
+                               for line in vd.explain(self.answer, reading, names, tests)))
+        parts.append("answer: %s\ntests: %d" % (self.answer.hex(), tests))
         parts.append("\n".join(vd.lines(reading, names)))
         return "\n\n".join(parts) + "\n"

@@ -104,6 +104,10 @@ EXAMPLES = [
         while an editor is between text and name. The start says that all are idle and the page is
         free, and forgets that text and name agree. The checker refuses with 13: a run may start
         with speaker 0's words under speaker 1's name, and no node allows that.
+
+        Two states break the condition; the other has speaker 1's words under speaker 0's name. Of
+        all that break it the report names the lowest-numbered, always: where the reports of two
+        releases of a file differ, the file does, and not the checker's choice.
         """, pages.names(pages.Pages(**TWO, agreed=False)), broken(13, 0, 0, 0, 0, 0, 1)),
     Example("refused-14-entry", """
         peterson-access, with a p that says only that P1 is at l2 or l3, and not that y1 and y2 are

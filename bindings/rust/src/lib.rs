@@ -27,10 +27,15 @@
 //! }
 //! assert_eq!(vd::single(&file, 3, 1), Ok(false));
 //!
+//! // The tests up to there: conditions 0 to 2 at all three states, condition 3 at states 0 and 1.
+//! assert_eq!(verdict.tests, 11);
+//!
 //! // With the node "at most 2" all four conditions are true.
 //! let last = file.len() - 8;
 //! file[last + 2] = 2;
-//! assert_eq!(vd::check(&file).outcome(), Outcome::Accepted { conditions: 4 });
+//! let verdict = vd::check(&file);
+//! assert_eq!(verdict.outcome(), Outcome::Accepted { conditions: 4 });
+//! assert_eq!(verdict.to_string(), "accepted: all 4 conditions are true at every state, 12 tests");
 //! ```
 
 use std::fmt;
@@ -38,7 +43,7 @@ use std::fmt;
 /// The bytes of a report.
 pub const REPORT: usize = 32;
 
-/// The check's result, with the fields of the report.
+/// The check's result: the fields of the report, and the tests.
 #[repr(C)]
 #[derive(Clone, Copy, Debug, PartialEq, Eq)]
 pub struct Verdict {
@@ -50,8 +55,11 @@ pub struct Verdict {
     pub transition: u8,
     /// The broken condition, the refusal's place, or for 0 how many conditions there are.
     pub at: u32,
-    /// The state that breaks the condition; zeros beyond the file's variables and where no condition is named.
+    /// The lowest-numbered state that breaks the condition; zeros beyond the file's variables and where no condition is named.
     pub values: [i16; 12],
+    /// How many tests of a condition at a state the check's definition makes, condition by condition, state by state: conditions times states for
+    /// 0; up to the state named, with it, for a broken condition; 0 where no condition is tested.
+    pub tests: u64,
 }
 
 /// What a verdict says.
@@ -59,8 +67,8 @@ pub struct Verdict {
 pub enum Outcome {
     /// Every condition is true at every state.
     Accepted { conditions: u32 },
-    /// The lowest broken condition, with a state that breaks it. The number tells its kind: 13 start, 14 entry, 15 cover, 16 range, 17 step,
-    /// 18 enabling.
+    /// The lowest broken condition, with the lowest-numbered state that breaks it. The number tells its kind: 13 start, 14 entry, 15 cover,
+    /// 16 range, 17 step, 18 enabling.
     Broken {
         number: u8,
         condition: u32,
@@ -101,9 +109,10 @@ pub fn check(file: &[u8]) -> Verdict {
 /// ```
 /// let mut report = [0xff; vd::REPORT];
 /// let verdict = vd::check_into(&[], &mut report);
-/// assert_eq!((verdict.number, verdict.at), (3, 0));
+/// assert_eq!((verdict.number, verdict.at, verdict.tests), (3, 0, 0));
 /// assert_eq!(report[..4], [3, 255, 255, 0]);
-/// assert_eq!(vd::check_into(&[], &mut report[..31]).number, 1);
+/// let verdict = vd::check_into(&[], &mut report[..31]);
+/// assert_eq!((verdict.number, verdict.at, verdict.tests), (1, 0, 0));
 /// ```
 pub fn check_into(file: &[u8], report: &mut [u8]) -> Verdict {
     // SAFETY: pointers and lengths are those of two slices; the library reads the first and writes to the second, which nothing else refers to.
@@ -152,7 +161,12 @@ impl Verdict {
 
 impl fmt::Display for Verdict {
     fn fmt(&self, f: &mut fmt::Formatter) -> fmt::Result {
-        self.outcome().fmt(f)
+        self.outcome().fmt(f)?;
+        match self.tests {
+            0 => Ok(()),
+            1 => write!(f, ", 1 test"),
+            tests => write!(f, ", {tests} tests"),
+        }
     }
 }
 

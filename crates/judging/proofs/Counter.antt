@@ -10,8 +10,8 @@ use Rattle.reading.proofs.Files.{B, D, H}
 use Rattle.states.specs.State.{State}
 use Rattle.runs.specs.Run.{enabled, Successor}
 use Rattle.soundness.specs.System.{systemOf}
-use Rattle.soundness.proofs.Computing.{computing}
-use Rattle.soundness.proofs.Values.{v, state}
+use Rattle.testing.proofs.Computing.{computing}
+use Rattle.testing.proofs.Values.{v, state}
 
 -- B, D and H have one variable v in 0..2 and one step, v becomes v + 1 where v is less than 2
 pub record Counter (file : List ℕ) (o : Outline) : Type 0 where

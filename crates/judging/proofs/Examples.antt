@@ -1,5 +1,6 @@
--- The marked examples of document 01, A to J, from the bytes of the file to the bytes of the report: one table, which antt computes, and one theorem
--- over its rows, with files that break each kind of condition or are one of its traps. Then a table of lists of conditions and one of single tests.
+-- The marked examples of document 01, A to J, from the bytes of the file to the bytes of the report, and the tests made: one table, which antt computes,
+-- and one theorem over its rows, with files that break each kind of condition or are one of its traps, or break one at several states. Then a table of
+-- lists of conditions and one of single tests.
 -- Assumes nothing.
 use mathlib.Core.Path.{_≡_, refl}
 use mathlib.Core.List.{List, [], _∷_, _++_, map, flatten, List·Memᴰ}
@@ -7,14 +8,8 @@ use Prim.Native.Nat.{ℕ}
 use lib.ListN.{length, take, drop, set, replicate}
 use Rattle.reading.specs.declared.Reading.{Reading}
 use Rattle.reading.specs.Read.{readOf}
-use Rattle.reading.proofs.Files.{agree, bytes, range, single, constant, variable, plain, A, B, C, D, E, F, G, H, I, J}
-use Rattle.states.specs.Number
-use Rattle.truths.specs.Search
-use Rattle.conditions.specs.Edges
-use Rattle.conditions.specs.Condition
+use Rattle.reading.proofs.Files.{agree, bytes, range, single, constant, variable, plain, true, A, B, C, D, E, F, G, H, I, J}
 use Rattle.conditions.specs.Condition.{conditionsOf}
-use Rattle.truths.specs.Truth
-use Rattle.testing.specs.Holding
 use Rattle.verdicts.specs.Verdict
 use Rattle.verdicts.specs.Verdict.{checkOf, singleOf}
 use Rattle.report.specs.Report
@@ -22,56 +17,59 @@ use Rattle.report.specs.Report.{reportOf}
 use Rattle.conditions.specs.declared.Condition.{Condition}
 use Rattle.conditions.specs.declared.Condition.the-variants.{Start, Entry, Cover, Range, Step, Enabling}
 use Rattle.verdicts.specs.declared.Single.{Single}
-use Rattle.soundness.proofs.Computing.{computing}
+use Rattle.deciding.proofs.Computing.{deciding}
 
 -- ---- reports
 -- a buffer before the check
 abbrev before : List ℕ
 before = replicate 34 170
 
--- the buffer after the check of a file
-abbrev checked : List (List ℕ) → List ℕ
-checked file = reportOf (checkOf (flatten file) (length before)) before
+-- the buffer after the check of a file, and the tests made
+abbrev checked : List (List ℕ) → List ℕ × ℕ
+checked file = let v = checkOf (flatten file) (length before) in (reportOf v before, v .tests)
 
--- a file, and its report's first sixteen bytes, as two numbers; zeros follow, and the buffer's last two bytes as they were
+-- a file, its report's first sixteen bytes, as two numbers, and the tests made; zeros follow in the buffer, and its last two bytes as they were
 abbrev Row : Type 0
-Row = List (List ℕ) × ℕ × ℕ
+Row = List (List ℕ) × ℕ × ℕ × ℕ
 
-abbrev reported : Row → List ℕ
-reported (file, named, values) = bytes named ++ bytes values ++ replicate 16 0 ++ replicate 2 170
+abbrev reported : Row → List ℕ × ℕ
+reported (file, named, values, tests) = (bytes named ++ bytes values ++ replicate 16 0 ++ replicate 2 170, tests)
 
 abbrev marked : List Row
 marked =
-    (A, 0x1100000003000000, 0x0100000000000000) ∷
-    (B, 0x00ffff0004000000, 0) ∷
-    (C, 0x1000000002000000, 0x0200000000000000) ∷
-    (D, 0x00ffff0008000000, 0) ∷
-    (E, 0x1102000006000000, 0) ∷
-    (F, 0x09ffff001e000000, 0) ∷
-    (G, 0x0affff0002000000, 0) ∷
-    (H, 0x00ffff0008000000, 0) ∷
-    (I, 0x09ffff0028000000, 0) ∷
-    (J, 0x00ffff0004000000, 0) ∷
+    (A, 0x1100000003000000, 0x0100000000000000, 11) ∷
+    (B, 0x00ffff0004000000, 0, 12) ∷
+    (C, 0x1000000002000000, 0x0200000000000000, 9) ∷
+    (D, 0x00ffff0008000000, 0, 24) ∷
+    (E, 0x1102000006000000, 0, 19) ∷
+    (F, 0x09ffff001e000000, 0, 0) ∷
+    (G, 0x0affff0002000000, 0, 0) ∷
+    (H, 0x00ffff0008000000, 0, 24) ∷
+    (I, 0x09ffff0028000000, 0, 0) ∷
+    (J, 0x00ffff0004000000, 0, 16) ∷
     -- "no bytes, 3 at 0; 7 bytes, 2"
-    ([], 0x03ffff0000000000, 0) ∷
-    (take 7 (range 0 2) ∷ [], 0x02ffff0000000000, 0) ∷
+    ([], 0x03ffff0000000000, 0, 0) ∷
+    (take 7 (range 0 2) ∷ [], 0x02ffff0000000000, 0, 0) ∷
     []
 
 abbrev broken : List Row
 broken =
     -- a starting state in no node (13), p in no node (14), a node without its q (15), a node whose double transition is disabled (18)
-    (set A 4 (constant 2), 0x0dffff0000000000, 0x0200000000000000) ∷
-    (set H 37 (constant 1), 0x0effff0000000000, 0) ∷
-    (set H 25 (constant 1), 0x0f02ff0003000000, 0) ∷
-    (set (set (set D 23 (plain 0x29)) 24 (constant 1)) 25 (variable 0), 0x1201000004000000, 0x0200000000000000) ∷
+    (set A 4 (constant 2), 0x0dffff0000000000, 0x0200000000000000, 3) ∷
+    (set H 37 (constant 1), 0x0effff0000000000, 0, 1) ∷
+    (set H 25 (constant 1), 0x0f02ff0003000000, 0, 10) ∷
+    (set (set (set D 23 (plain 0x29)) 24 (constant 1)) 25 (variable 0), 0x1201000004000000, 0x0200000000000000, 15) ∷
     -- a negative value
-    (set (set (set A 0 (range 0xffff 0)) 4 (constant 0xffff)) 20 (constant 0xfffe), 0x0dffff0000000000, 0xffff000000000000) ∷
+    (set (set (set A 0 (range 0xffff 0)) 4 (constant 0xffff)) 20 (constant 0xfffe), 0x0dffff0000000000, 0xffff000000000000, 1) ∷
     -- a transition that has no edge must keep the node; with an edge back to it, so it does in B
-    (B ++ (single 0 0 0 ∷ []), 0x00ffff0004000000, 0) ∷
+    (B ++ (single 0 0 0 ∷ []), 0x00ffff0004000000, 0, 12) ∷
     -- after a double step the source node is not enough: E, its node 2 "v at most 1"
-    (set (set E 27 (plain 0x29)) 29 (constant 1), 0x1102000006000000, 0) ∷
+    (set (set E 27 (plain 0x29)) 29 (constant 1), 0x1102000006000000, 0, 19) ∷
     -- a broken condition counts at states that no run reaches: B, its guard "v = 2"
-    (set B 6 (plain 0x27), 0x1000000002000000, 0x0200000000000000) ∷
+    (set B 6 (plain 0x27), 0x1000000002000000, 0x0200000000000000, 9) ∷
+    -- broken at several states, the lowest is named: A, its start "v at most 2" and its node "v at most 0"; J, its q false, at 0 1 and 1 0
+    (set (set (set A 2 (plain 0x29)) 4 (constant 2)) 20 (constant 0), 0x0dffff0000000000, 0x0100000000000000, 2) ∷
+    (set (set (set J 18 (plain 0x26)) 19 true) 20 true, 0x0f00ff0001000000, 0x0000010000000000, 6) ∷
     []
 
 abbrev table : List Row
@@ -124,14 +122,7 @@ singles =
 -- ---- what antt computes
 -- `unfolding reporting` unfolds all that stands here
 unfoldable pub reporting : Unit {0}
-unfolding computing Number.countOf Number.stateOf
-    Search.firstFailingFrom Search.firstFailing Edges.carries Edges.isDouble
-    Condition.each Condition.movesOf Condition.conditionsFrom Condition.conditionsOf Condition.totalOf Condition.conditionAt
-    Condition.refusalNumber Condition.nodeNumber Condition.transitionNumber
-    Truth.implies Holding.isEnabled Holding.someNode Holding.someTarget Holding.conditionHolds
-    Verdict.stateCount Verdict.stateAt Verdict.unnamedOf Verdict.namedOf Verdict.breakingOf Verdict.isTrue Verdict.brokenOf Verdict.judgedOf
-    Verdict.verdictBy Verdict.checkOf Verdict.singleJudged Verdict.singleBy Verdict.singleOf
-    Report.valueBytes Report.reportBytes Report.reportOf
+unfolding deciding Verdict.singleJudged Verdict.singleBy Verdict.singleOf Report.valueBytes Report.reportBytes Report.reportOf
 reporting = tt
 
 -- the columns of each table

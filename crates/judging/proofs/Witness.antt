@@ -1,8 +1,9 @@
--- Nothing is claimed of an empty set: for each of the three claims an accepted file of document 01 (B, H, D) with a run that the claim speaks of,
--- which starts, idles and moves.
---     invariance-met     B: a finite run from a starting state
+-- Nothing is claimed of an empty set: for each of the three claims an accepted file of document 01 (B, H, D) that makes it, with a run that the claim
+-- speaks of: from a starting state unless said otherwise, and it idles and moves.
+--     invariance-met     B: a finite run
 --     wait-for-met       H: an endless run from a state where p holds, and q_0 does not hold at the four positions from there on
 --     chain-met          D, whose step is just: an endless run, 2-just and just, from a state where p holds; q holds 2 × 2 steps on, and not before
+--     chain-met-late     the same from v = 1, which is no starting state; q holds 1 × 2 steps on, and not before
 -- Assumes nothing.
 use mathlib.Core.Path.{_≡_, refl}
 use mathlib.Core.Logic.{inl, inr}
@@ -11,10 +12,11 @@ use mathlib.Core.List.{List, [], _∷_}
 use Prim.Native.Nat.{ℕ, zero, suc, _+_, _<_, _≤_}
 use native.Mathlib.Nat.{add-zero}
 use native.Mathlib.Omega.{arith}
-use lib.Dec.{T, lit≤}
+use lib.Dec.{T, lit<, lit≤}
 use lib.IntN.{ℤ}
 use Rattle.parsing.specs.declared.Outline.{Outline}
 use Rattle.reading.specs.declared.Reading.{Reading}
+use Rattle.reading.specs.Edge.{diagram}
 use Rattle.reading.specs.Read.{readOf}
 use Rattle.states.specs.State.{State}
 use Rattle.testing.specs.Diagram.{startHolds, pHolds, qHolds}
@@ -22,7 +24,7 @@ use Rattle.verdicts.specs.Verdict.{checkOf}
 use Rattle.runs.specs.Run.{Run, finite, endless, Position, at, Next, IsRun, DisabledOrTaken, Just, KJust}
 use Rattle.runs.specs.Claim.{Waiting}
 use Rattle.soundness.specs.System.{systemOf}
-use Rattle.soundness.proofs.Values.{v}
+use Rattle.testing.proofs.Values.{v}
 use Rattle.judging.proofs.Counter.{Counter, b, oB, d, oD, h, oH, B-counts, D-counts, H-counts}
 use Rattle.judging.proofs.Examples.{reporting}
 
@@ -34,6 +36,10 @@ pub σ : ℕ → List ℤ
 σ (suc (suc (suc zero))) = v 1
 σ (suc (suc (suc (suc n)))) = v 2
 
+-- from its third position on
+abbrev late : ℕ → List ℤ
+late n = σ (suc (suc n))
+
 abbrev listed : Run (List ℤ)
 listed = finite (v 0) (v 0 ∷ v 1 ∷ v 1 ∷ v 2 ∷ [])
 
@@ -44,8 +50,8 @@ Idles r = (n : ℕ) × Position r (suc n) × (at r (suc n) ≡ at r n)
 abbrev Moves : Run (List ℤ) → Type 0
 Moves r = (n : ℕ) × Position r (suc n) × (at r (suc n) ≡ at r n → ⊥)
 
-apart : v 1 ≡ v 0 → ⊥
-apart e = let z : _≡_ {A = ℕ} 1 0 = cc in absurd (omega arith)
+apart : {m n : ℕ} → m < n → v n ≡ v m → ⊥
+apart {m} {n} l e = let z : _≡_ {A = ℕ} n m = cc in absurd (omega arith)
 
 module _ (file : List ℕ) (o : Outline) (c : Counter file o) where
   first-move : Next (systemOf file o) (v 0) (v 1)
@@ -100,20 +106,30 @@ module _ (file : List ℕ) (o : Outline) (c : Counter file o) where
   taken zero l (suc (suc (suc (suc n)))) = (0, omega arith, rw (add-zero (suc (suc (suc (suc n))))) (inl (c .two-off)))
   taken (suc t) l n = absurd (omega arith)
 
+  -- from v = 1 on: 1 1 2, and then 2 for ever
+  late-run : IsRun (systemOf file o) (endless late)
+  late-run = let run = σ-run in record { states = λ n p. run .states (suc (suc n)) tt; steps = λ n p. run .steps (suc (suc n)) tt }
+
+  late-taken : (t : ℕ) → t < 1 → (n : ℕ) → (j : ℕ) × (j < 2) × DisabledOrTaken (systemOf file o) t late (n + j)
+  late-taken t l n =
+      let x = taken t l (suc (suc n)) in
+      let same : suc (suc n) + x .0 ≡ suc (suc (n + x .0)) = omega arith in
+      (x .0, x .1, rw same at (x .2))
+
 -- ---- the theorems
--- the file is accepted, and has this outline
-abbrev Accepted : List ℕ → Outline → Type 0
-Accepted file o = (readOf file ≡ Reading.Readable o) × (checkOf file 32 .number ≡ 0)
+-- the file is accepted, has this outline, and its property is of this kind
+abbrev Accepted : List ℕ → Outline → ℕ → Type 0
+Accepted file o kind = (readOf file ≡ Reading.Readable o) × (checkOf file 32 .number ≡ 0) × (diagram file o ≡ kind)
 
-pub invariance-met : Accepted b oB × IsRun (systemOf b oB) listed × T (startHolds b oB (at listed 0)) × Idles listed × Moves listed
+pub invariance-met : Accepted b oB 1 × IsRun (systemOf b oB) listed × T (startHolds b oB (at listed 0)) × Idles listed × Moves listed
 unfolding reporting
-invariance-met = ((refl, refl), listed-run b oB B-counts, tt, (0, omega arith, refl), (1, omega arith, apart))
+invariance-met = ((refl, refl, refl), listed-run b oB B-counts, tt, (0, omega arith, refl), (1, omega arith, apart (lit< tt)))
 
-pub wait-for-met : Accepted h oH × IsRun (systemOf h oH) (endless σ) × T (pHolds h oH (σ 0)) × Waiting (qHolds h oH 0) (endless σ) 0 3
-    × Idles (endless σ) × Moves (endless σ)
+pub wait-for-met : Accepted h oH 2 × IsRun (systemOf h oH) (endless σ) × T (startHolds h oH (σ 0)) × T (pHolds h oH (σ 0))
+    × Waiting (qHolds h oH 0) (endless σ) 0 3 × Idles (endless σ) × Moves (endless σ)
 unfolding σ reporting
 wait-for-met =
-    ((refl, refl), σ-run h oH H-counts, tt, record { from = omega arith; position = tt; unmet = unmet }, (0, tt, refl), (1, tt, apart))
+    ((refl, refl, refl), σ-run h oH H-counts, tt, tt, record { from = omega arith; position = tt; unmet = unmet }, (0, tt, refl), (1, tt, apart (lit< tt)))
   where
     unmet : (j : ℕ) → 0 ≤ j → j ≤ 3 → T (not (qHolds h oH 0 (σ j)))
     unmet zero a l = tt
@@ -122,18 +138,20 @@ wait-for-met =
     unmet (suc (suc (suc zero))) a l = tt
     unmet (suc (suc (suc (suc j)))) a l = absurd (omega arith)
 
-pub chain-met : Accepted d oD × IsRun (systemOf d oD) (endless σ) × T (systemOf d oD .just 0) × KJust (systemOf d oD) 2 σ × Just (systemOf d oD) σ
-    × T (pHolds d oD (σ 0)) × Idles (endless σ) × Moves (endless σ) × ((j : ℕ) → j < 4 → T (not (qHolds d oD 0 (σ j)))) × T (qHolds d oD 0 (σ 4))
+pub chain-met : Accepted d oD 3 × IsRun (systemOf d oD) (endless σ) × T (startHolds d oD (σ 0)) × T (systemOf d oD .just 0)
+    × KJust (systemOf d oD) 2 σ × Just (systemOf d oD) σ × T (pHolds d oD (σ 0)) × Idles (endless σ) × Moves (endless σ)
+    × ((j : ℕ) → j < 4 → T (not (qHolds d oD 0 (σ j)))) × T (qHolds d oD 0 (σ 4))
 unfolding σ reporting
 chain-met = (
-  (refl, refl),
+  (refl, refl, refl),
   σ-run d oD D-counts,
+  tt,
   tt,
   (λ t l j n. taken d oD D-counts t l n),
   (λ t l j n. let x = taken d oD D-counts t l n in (x .0, x .2)),
   tt,
   (0, tt, refl),
-  (1, tt, apart),
+  (1, tt, apart (lit< tt)),
   unmet,
   tt,
 )
@@ -144,3 +162,25 @@ chain-met = (
     unmet (suc (suc zero)) l = tt
     unmet (suc (suc (suc zero))) l = tt
     unmet (suc (suc (suc (suc j)))) l = absurd (omega arith)
+
+pub chain-met-late : Accepted d oD 3 × IsRun (systemOf d oD) (endless late) × T (not (startHolds d oD (late 0))) × KJust (systemOf d oD) 2 late
+    × Just (systemOf d oD) late × T (pHolds d oD (late 0)) × Idles (endless late) × Moves (endless late)
+    × ((j : ℕ) → j < 2 → T (not (qHolds d oD 0 (late j)))) × T (qHolds d oD 0 (late 2))
+unfolding σ reporting
+chain-met-late = (
+  (refl, refl, refl),
+  late-run d oD D-counts,
+  tt,
+  (λ t l j n. late-taken d oD D-counts t l n),
+  (λ t l j n. let x = late-taken d oD D-counts t l n in (x .0, x .2)),
+  tt,
+  (0, tt, refl),
+  (1, tt, apart (lit< tt)),
+  unmet,
+  tt,
+)
+  where
+    unmet : (j : ℕ) → j < 2 → T (not (qHolds d oD 0 (late j)))
+    unmet zero l = tt
+    unmet (suc zero) l = tt
+    unmet (suc (suc j)) l = absurd (omega arith)

@@ -8,6 +8,7 @@ use verdicts::verdict;
 ghost use mathlib.Core.Path.{_≡_};
 ghost use lib.ListN.{length};
 ghost use Rattle.verdicts.specs.Verdict.{checkOf, singleOf};
+ghost use Rattle.deciding.specs.Decision.{Decides};
 ghost use Rattle.report.specs.Report.{reportOf};
 ghost use Rattle.soundness.specs.System.{Claim};
 
@@ -16,10 +17,11 @@ ghost use Rattle.soundness.specs.System.{Claim};
 pub fn check(file: &[u8], report: &mut [u8]) -> Verdict
     ensures verdict { λ r. ⌜ r ≡ checkOf (now (file .entry)) (length (now (report .entry))) ⌝ }
     ensures written { λ r. ⌜ now (report .exit) ≡ reportOf r (now (report .entry)) ⌝ }
+    ensures decides { λ r. ⌜ Decides (now (file .entry)) (length (now (report .entry))) r ⌝ }
     ensures sound { λ r. ⌜ (r .number ≡ 0 → Claim (now (file .entry))) ⌝ }
 {
     if report.len() < 32 {
-        return unnamed(1, 0);
+        return unnamed(1, 0, 0);
     }
     let found = verdict(file);
     write_report(found, report);

@@ -8,7 +8,7 @@ ghost use lib.ListN.{length, take, drop};
 ghost use Rattle.report.specs.Report.{valueBytes, reportOf};
 
 // The number of the refusal, or 0; the broken condition's node and transition, 255 for none; the condition, the place, or for 0 the total; the values
-// of the state that breaks the condition.
+// of the state that breaks the condition. Beside what is reported, the tests made.
 #[repr(C)]
 pub struct Verdict {
     pub number: u8,
@@ -16,6 +16,7 @@ pub struct Verdict {
     pub transition: u8,
     pub at: u32,
     pub values: [i16; 12],
+    pub tests: u64,
 }
 
 // The values, two bytes each, from byte 8 on.

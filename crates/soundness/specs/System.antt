@@ -1,7 +1,7 @@
 -- The system of a readable file, with outline o, and what the file claims of its runs.
 use mathlib.Core.Path.{_≡_}
 use mathlib.Core.List.{List}
-use Prim.Native.Nat.{ℕ, _-_}
+use Prim.Native.Nat.{ℕ, _-_, _≤_}
 use lib.IntN.{ℤ}
 use Rattle.parsing.specs.declared.Outline.{Outline}
 use Rattle.records.specs.Record.{fieldB}
@@ -28,8 +28,9 @@ systemOf file o =
     }
 
 -- what is claimed, by the property's a: "a = 1 invariance ..", "a = 2 wait-for, b = 1..32 the count of phases, .. m = b - 1", "a = 3 chain". "Node 0
--- is the goal in wait-for and chain."
+-- is the goal in wait-for and chain." There is no other kind
 pub record Claimed (file : List ℕ) (o : Outline) : Type 0 where
+  pub kind : (1 ≤ diagram file o) × (diagram file o ≤ 3)
   pub invariance : diagram file o ≡ 1
       → Invariance (systemOf file o) (qHolds file o 0) × InRange (systemOf file o) 0 (o .nodes) (nodeHolds file o)
   pub wait-for : diagram file o ≡ 2

@@ -1,5 +1,6 @@
 -- "A program reads the file from standard input and prints the report as 64 small hexadecimal digits and a line feed."
 use Prim.Native.Nat.{ℕ, _+_, _/_, _%_}
+use mathlib.Core.Path.{_≡_}
 use mathlib.Core.Bool.{cond}
 use mathlib.Core.List.{List, [], _∷_, _++_}
 use lib.Dec.{ltb}
@@ -22,3 +23,7 @@ lineOf report = digitsOf report ++ (10 ∷ [])
 -- the check's report on the file, in a buffer of 32 bytes
 unfoldable pub printedOf : List ℕ → List ℕ
 printedOf file = lineOf (reportOf (checkOf file 32) (replicate 32 0))
+
+-- --tests, in ASCII, is the one argument; `count` counts the program's name too
+abbrev pub TestsAsked : ℕ → List ℕ → Type 0
+TestsAsked count argument = (count ≡ 2) × (argument ≡ 45 ∷ 45 ∷ 116 ∷ 101 ∷ 115 ∷ 116 ∷ 115 ∷ [])

@@ -1,11 +1,17 @@
-// Reads a file from standard input and prints the report of its check: 64 small hexadecimal digits and a line feed. An input that can't be read to its
-// end gets no report, and one that can't be written says so: the system's reason goes to standard error.
+// Reads a file from standard input and prints the report of its check: 64 small hexadecimal digits and a line feed. With the argument --tests a second
+// line has the tests, in decimal. An input that can't be read to its end gets no report, nor do other arguments, and an output that can't be written
+// says so: the reason goes to standard error.
+use libc::STDERR_FILENO;
 use libc::STDIN_FILENO;
 use libc::STDOUT_FILENO;
 use printing::printed;
+ghost use mathlib.Core.Bool.{true};
+ghost use mathlib.Core.Logic.{_↔_};
+ghost use mathlib.Core.Path.{_≡_};
 ghost use Prim.Native.Nat.{_+_, _≤_};
 ghost use lib.ListN.{length};
 ghost use Rattle.io.specs.Counts.{Counts};
+ghost use Rattle.vdcheck.specs.Printing.{TestsAsked};
 
 mod printing;
 
@@ -45,7 +51,26 @@ fn receive(buffer: &mut [u8]) -> Received
     Received { length, failed }
 }
 
+// Whether the program is asked for the tests, by how many arguments it has, its own name among them, and its first.
+fn tests_asked(count: usize, argument: &[u8]) -> bool
+    ensures { λ r. ⌜ (r ≡ true) ↔ TestsAsked count (now (argument .entry)) ⌝ }
+{
+    if count != 2 {
+        return false;
+    }
+    check::same(argument, b"--tests")
+}
+
 fn main() {
+    // An argument that is longer leaves a length of 0.
+    let mut argument = [0u8; 7];
+    let length = os::arg(1, &mut argument);
+    let count = os::arg_count();
+    let tests = tests_asked(count, &argument[..length]);
+    if count > 1 && !tests {
+        io::write_all(STDERR_FILENO, b"vdcheck: usage: vdcheck [--tests] < FILE\n");
+        return;
+    }
     // One byte more than the longest file has: a longer input fills it, and is too long.
     let mut buffer = [0u8; 32769];
     let received = receive(&mut buffer);
@@ -54,8 +79,14 @@ fn main() {
         return;
     }
     let length = received.length;
-    let line = printed(&buffer[..length]);
-    if !io::write_all(STDOUT_FILENO, &line) {
+    let printout = printed(&buffer[..length]);
+    let line = printout.line;
+    let mut written = io::write_all(STDOUT_FILENO, &line);
+    if written && tests {
+        written = io::print_decimal(STDOUT_FILENO, printout.tests)
+            && io::write_all(STDOUT_FILENO, b"\n");
+    }
+    if !written {
         os::fail(b"vdcheck: standard output");
     }
 }

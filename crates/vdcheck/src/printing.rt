@@ -1,8 +1,9 @@
-// The line that the program prints.
+// What the program prints.
 ghost use mathlib.Core.Path.{_≡_};
 ghost use Prim.Native.Nat.{_/_, _%_, _<_};
 ghost use lib.ListN.{getD};
 ghost use Rattle.soundness.specs.System.{Claim};
+ghost use Rattle.verdicts.specs.Verdict.{checkOf};
 ghost use Rattle.vdcheck.specs.Printing.{digitOf, lineOf, printedOf};
 
 // The small hexadecimal digit of a number below 16, in ASCII.
@@ -48,12 +49,23 @@ fn line(report: [u8; 32]) -> [u8; 65]
     line
 }
 
+// The line of a report, and the tests of its check.
+pub(crate) struct Printout {
+    pub(crate) line: [u8; 65],
+    pub(crate) tests: u64,
+}
+
 // What is printed for a file. A line that begins with 00 is an acceptance, and what the file claims is then true.
-pub(crate) fn printed(file: &[u8]) -> [u8; 65]
-    ensures line { λ r. ⌜ r ≡ printedOf (now (file .entry)) ⌝ }
-    ensures sound { λ r. ⌜ (getD r 0 0 ≡ 48 → getD r 1 0 ≡ 48 → Claim (now (file .entry))) ⌝ }
+pub(crate) fn printed(file: &[u8]) -> Printout
+    ensures line { λ r. ⌜ r .line ≡ printedOf (now (file .entry)) ⌝ }
+    ensures tests { λ r. ⌜ r .tests ≡ checkOf (now (file .entry)) 32 .tests ⌝ }
+    ensures sound { λ r. ⌜ (getD (r .line) 0 0 ≡ 48 → getD (r .line) 1 0 ≡ 48 → Claim (now (file .entry))) ⌝ }
 {
     let mut report = [0u8; 32];
-    judging::check(file, &mut report);
-    line(report)
+    let verdict = judging::check(file, &mut report);
+    let line = line(report);
+    Printout {
+        line,
+        tests: verdict.tests,
+    }
 }

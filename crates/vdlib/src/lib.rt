@@ -4,6 +4,7 @@ use verdicts::Single;
 ghost use mathlib.Core.Path.{_≡_};
 ghost use lib.ListN.{length};
 ghost use Rattle.verdicts.specs.Verdict.{checkOf, singleOf};
+ghost use Rattle.deciding.specs.Decision.{Decides};
 ghost use Rattle.report.specs.Report.{reportOf};
 ghost use Rattle.soundness.specs.System.{Claim};
 ghost use Rattle.vdlib.specs.Tested.{testedOf};
@@ -20,6 +21,7 @@ pub struct Tested {
 pub extern "C" fn vd_check(file: &[u8], report: &mut [u8]) -> Verdict
     ensures result { λ r. ⌜ r ≡ checkOf (now (file .entry)) (length (now (report .entry))) ⌝ }
     ensures report { λ r. ⌜ now (report .exit) ≡ reportOf r (now (report .entry)) ⌝ }
+    ensures decides { λ r. ⌜ Decides (now (file .entry)) (length (now (report .entry))) r ⌝ }
     ensures claim { λ r. ⌜ (r .number ≡ 0 → Claim (now (file .entry))) ⌝ }
 {
     judging::check(file, report)

@@ -39,8 +39,8 @@ pub enum Single {
 }
 
 // A verdict that names no condition.
-pub fn unnamed(number: u8, at: u32) -> Verdict
-    ensures { λ r. ⌜ r ≡ unnamedOf number at ⌝ }
+pub fn unnamed(number: u8, at: u32, tests: u64) -> Verdict
+    ensures { λ r. ⌜ r ≡ unnamedOf number at tests ⌝ }
 {
     Verdict {
         number,
@@ -48,13 +48,14 @@ pub fn unnamed(number: u8, at: u32) -> Verdict
         transition: 255,
         at,
         values: [0; 12],
+        tests,
     }
 }
 
 // The verdict that names a broken condition, its number, and the state that breaks it.
-fn named(condition: Condition, number: u32, state: [i16; 12]) -> Verdict
+fn named(condition: Condition, number: u32, state: [i16; 12], tests: u64) -> Verdict
     requires { ⌜ (nodeNumber condition ≤ 255) × (transitionNumber condition ≤ 255) ⌝ }
-    ensures { λ r. ⌜ r ≡ namedOf condition number state ⌝ }
+    ensures { λ r. ⌜ r ≡ namedOf condition number state tests ⌝ }
 {
     match condition {
         Condition::Start => Verdict {
@@ -63,6 +64,7 @@ fn named(condition: Condition, number: u32, state: [i16; 12]) -> Verdict
             transition: 255,
             at: number,
             values: state,
+            tests,
         },
         Condition::Entry => Verdict {
             number: 14,
@@ -70,6 +72,7 @@ fn named(condition: Condition, number: u32, state: [i16; 12]) -> Verdict
             transition: 255,
             at: number,
             values: state,
+            tests,
         },
         Condition::Cover(n) => Verdict {
             number: 15,
@@ -77,6 +80,7 @@ fn named(condition: Condition, number: u32, state: [i16; 12]) -> Verdict
             transition: 255,
             at: number,
             values: state,
+            tests,
         },
         Condition::Range(n, t) => Verdict {
             number: 16,
@@ -84,6 +88,7 @@ fn named(condition: Condition, number: u32, state: [i16; 12]) -> Verdict
             transition: t as u8,
             at: number,
             values: state,
+            tests,
         },
         Condition::Step(n, t) => Verdict {
             number: 17,
@@ -91,6 +96,7 @@ fn named(condition: Condition, number: u32, state: [i16; 12]) -> Verdict
             transition: t as u8,
             at: number,
             values: state,
+            tests,
         },
         Condition::Enabling(n, t) => Verdict {
             number: 18,
@@ -98,6 +104,7 @@ fn named(condition: Condition, number: u32, state: [i16; 12]) -> Verdict
             transition: t as u8,
             at: number,
             values: state,
+            tests,
         },
     }
 }
@@ -127,12 +134,13 @@ fn first_break(
     let start = state_of(low, high, from);
     let mut number = sure;
     let mut state = low;
+    let mut n: usize = 0;
     'conditions: while number < total {
         let condition = condition_at(file, outline, number);
         let test = test_of(file, outline, nodes, transitions, condition);
         let premise = test.premise;
         state = low;
-        let mut n: usize = 0;
+        n = 0;
         if number < end {
             state = start;
             n = from;
@@ -142,19 +150,27 @@ fn first_break(
             let next = advance(low, high, outline.vars, state);
             if holds(file, spans, premise, state) {
                 if !concludes(file, spans, low, high, test, state) {
-                    break 'conditions;
+                    break 'states;
                 }
             }
             state = next;
             n += 1;
         }
+        if n < states {
+            break 'conditions;
+        }
         number += 1;
     }
     if number < total {
         let broken = condition_at(file, outline, number);
-        return named(broken, number as u32, state);
+        return named(
+            broken,
+            number as u32,
+            state,
+            (number * states + n + 1) as u64,
+        );
     }
-    unnamed(0, total as u32)
+    unnamed(0, total as u32, (total * states) as u64)
 }
 
 // The verdict on a readable file. One pass over the states finds the conditions that are true, all of them if the file is accepted; the search for the
@@ -212,7 +228,7 @@ pub fn verdict(file: &[u8]) -> Verdict
     let found = read(file);
     match found {
         Reading::Readable(outline) => judge(file, outline),
-        Reading::Refused(number, place) => unnamed(number, place as u32),
+        Reading::Refused(number, place) => unnamed(number, place as u32, 0),
     }
 }
 

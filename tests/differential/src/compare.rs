@@ -129,6 +129,7 @@ pub fn proved_check(file: &[u8], report: &mut [u8]) -> Verdict {
         transition: verdict.transition,
         at: verdict.at,
         values: verdict.values,
+        tests: verdict.tests,
     }
 }
 

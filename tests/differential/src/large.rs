@@ -1,18 +1,27 @@
-//! Files of 1,048,576 states that are checked as a whole, with the answer.
+//! Files of 1,048,576 states that are checked as a whole, with the answer, worked out by hand.
 
 use crate::generate::{
     constant, join, plain, record, Code, Draft, Edge, Transition, CHAIN, INVARIANCE, WAIT_FOR,
 };
+use independent::Verdict;
 
-/// The ranges; the last state has the high ends.
+/// The ranges, of 32, 32, 16 and 64 values; the last state has the high ends.
 const RANGES: [(i16, i16); 4] = [(0, 31), (-16, 15), (-20, -5), (0, 63)];
 
 pub struct Large {
     pub name: &'static str,
     pub file: Vec<u8>,
-    /// The verdict's number, and the condition or the total.
+    /// The verdict's number, the condition or the total, and the tests.
     pub number: u8,
     pub at: u32,
+    pub tests: u64,
+}
+
+impl Large {
+    /// Whether this is the answer.
+    pub fn expects(&self, verdict: &Verdict) -> bool {
+        (verdict.number, verdict.at, verdict.tests) == (self.number, self.at, self.tests)
+    }
 }
 
 fn variable(number: u8) -> Code {
@@ -42,6 +51,13 @@ fn last_state() -> Code {
 
 fn not(truth: &Code) -> Code {
     join(0x22, &[truth])
+}
+
+/// That variable 0 is at least 5 and variable 3 is 7. The lowest such state has the low ends
+/// otherwise: its number is 5 × 32,768 + 7 = 163,847.
+fn from_the_middle() -> Code {
+    let at_least = join(0x29, &[&value(5), &variable(0)]);
+    join(0x23, &[&at_least, &equal(&variable(3), &value(7))])
 }
 
 /// Variable 0 falls to 0: one transition, nodes "it is 0" and "it is not".
@@ -92,11 +108,12 @@ fn keeping(start: Code, q: Code, node: Code) -> Draft {
 }
 
 pub fn cases() -> Vec<Large> {
-    let large = |name, draft: Draft, number, at| Large {
+    let large = |name, draft: Draft, number, at, tests| Large {
         name,
         file: draft.records().concat(),
         number,
         at,
+        tests,
     };
     let others = || not(&last_state());
     vec![
@@ -105,26 +122,63 @@ pub fn cases() -> Vec<Large> {
             keeping(others(), always(), others()),
             0,
             4,
+            4_194_304,
         ),
         large(
             "an invariance, start broken at the last state",
             keeping(always(), always(), others()),
             13,
             0,
+            1_048_576,
         ),
         large(
             "an invariance, cover broken at the last state",
             keeping(always(), others(), always()),
             15,
             1,
+            2_097_152,
         ),
-        large("a wait-for, accepted", falling(WAIT_FOR, others()), 0, 5),
-        large("a chain, accepted", falling(CHAIN, always()), 0, 5),
+        large(
+            "an invariance, cover broken from the middle on",
+            keeping(always(), not(&from_the_middle()), always()),
+            15,
+            1,
+            1_048_576 + 163_847 + 1,
+        ),
+        large(
+            "a wait-for, accepted",
+            falling(WAIT_FOR, others()),
+            0,
+            5,
+            5_242_880,
+        ),
+        large(
+            "a chain, accepted",
+            falling(CHAIN, always()),
+            0,
+            5,
+            5_242_880,
+        ),
         large(
             "a chain, enabling broken at the last state",
             falling(CHAIN, others()),
             18,
             4,
+            5_242_880,
         ),
     ]
+}
+
+/// The file that takes the most tests, more than 31 bits hold: 32 nodes and 32 transitions.
+pub fn greatest() -> Large {
+    let mut draft = keeping(last_state(), always(), last_state());
+    draft.transitions = vec![draft.transitions[0].clone(); 32];
+    draft.nodes = vec![draft.nodes[0].clone(); 32];
+    Large {
+        name: "the most tests",
+        file: draft.records().concat(),
+        number: 0,
+        at: 2_081,
+        tests: 2_182_086_656,
+    }
 }

@@ -1,5 +1,5 @@
-//! Compares the proved checker (`vd`) with another implementation of document 01
-//! (`independent`): the check, its report and its buffer, and single tests.
+//! Compares the proved checker (`vd`) with another implementation of documents 01 and 02
+//! (`independent`): the check, its tests, its report and its buffer, and single tests.
 
 pub mod compare;
 pub mod generate;

@@ -2,7 +2,7 @@
 //! independent one on files at the limits, the examples, CASES random files, and files of very
 //! many states. With `--until-difference` it ends at the first difference and asserts nothing else.
 
-use differential::compare::{Answers, Case, Facts};
+use differential::compare::{proved_check, Answers, Case, Facts};
 use differential::generate::{self, Random, Samples};
 use differential::tally::{self, Tally};
 use differential::{large, limits, samples};
@@ -66,6 +66,7 @@ fn main() -> ExitCode {
         println!("no difference in {} files", run.files);
         return ExitCode::SUCCESS;
     }
+    run.greatest();
     tally.print();
     if run.options.cases >= tally::FILES {
         run.tests.extend(tally.tests(run.options.cases));
@@ -145,12 +146,19 @@ impl Run {
     fn large(&mut self) {
         for large in large::cases() {
             let random = &mut Random::new(0, 0);
-            let asked = self.compare(large.name, || asked(random, large.file, Some(usize::MAX)));
+            let file = large.file.clone();
+            let asked = self.compare(large.name, || asked(random, file, Some(usize::MAX)));
             let answer = asked.and_then(|Asked { answers, .. }| answers.check);
-            let as_expected =
-                answer.map(|(verdict, _)| (verdict.number, verdict.at) == (large.number, large.at));
+            let as_expected = answer.map(|(verdict, _)| large.expects(&verdict));
             self.test(large.name.to_string(), as_expected == Some(true));
         }
+    }
+
+    /// Asked of the proved checker alone: the other takes over half a minute.
+    fn greatest(&mut self) {
+        let large = large::greatest();
+        let verdict = proved_check(&large.file, &mut [0; 32]);
+        self.test(large.name.to_string(), large.expects(&verdict));
     }
 
     fn test(&mut self, name: String, passes: bool) {

@@ -1,11 +1,13 @@
 //! What makes a file special: a limit reached or passed by one, refusals that meet. Told from the
-//! file and from how it is read.
+//! file and from how it is read. And what makes its verdict special: the tests, the breaking state.
 
-use crate::compare::Facts;
+use crate::compare::{Case, Facts};
 use crate::generate::{combine, Interval, Record, KINDS, RECORDS};
-use independent::{File, Refusal};
+use independent::{File, Refusal, Tested, Verdict};
 
 const BOUND: i64 = 1_000_000;
+/// A file with a short buffer is checked once more, with room, if it has at most so many tests.
+const LITTLE: usize = 1_000;
 
 /// The situations that must come up. A number in front is the refusal; files with a limit reached
 /// are readable.
@@ -58,6 +60,86 @@ pub const SITUATIONS: [&str; 47] = [
     "8: and an edge that breaks a rule",
     "9: and a node without a double edge",
 ];
+
+/// The verdicts without a condition that must come up. A number in front is the refusal.
+pub const UNNAMED: [&str; 4] = [
+    "accepted, with all tests",
+    "refused, no tests",
+    "1: no tests, the file else accepted",
+    "1: no tests, the file else broken",
+];
+
+/// The breaking states that must come up, for each kind of condition.
+pub const BREAKING: [&str; 6] = [
+    "at state 0",
+    "at a later state",
+    "at the last of several states",
+    "at a higher state too",
+    "at a negative value, not at state 0",
+    "at a state of another number if the first variable were fastest",
+];
+
+/// The situations of a verdict that names no condition.
+pub fn unnamed(case: &Case, facts: &Facts, verdict: &Verdict) -> Vec<&'static str> {
+    let number = verdict.number;
+    let all = verdict.tests == facts.tests() as u64;
+    let none = verdict.tests == 0;
+    let with_room = || independent::check(&case.file, &mut [0; 32]).number;
+    let little = facts.reading.is_ok() && facts.tests() <= LITTLE;
+    let otherwise = (number == 1 && little).then(with_room);
+    told(&[
+        ("accepted, with all tests", number == 0 && all),
+        ("refused, no tests", number > 0 && none),
+        (
+            "1: no tests, the file else accepted",
+            otherwise == Some(0) && none,
+        ),
+        (
+            "1: no tests, the file else broken",
+            otherwise >= Some(13) && none,
+        ),
+    ])
+}
+
+/// The situations of the state that breaks the named condition, if the tests are those up to it. Of
+/// other states that break it the single tests tell.
+pub fn breaking(
+    case: &Case,
+    file: &File,
+    verdict: &Verdict,
+    singles: &[Tested],
+) -> Vec<&'static str> {
+    let values = || file.variables.iter().zip(verdict.values);
+    let (mut state, mut first_fastest, mut weight) = (0, 0, 1);
+    for (range, value) in values() {
+        let offset = (i32::from(value) - i32::from(range.low)) as usize;
+        state = state * range.size() + offset;
+        first_fastest += weight * offset;
+        weight *= range.size();
+    }
+    if verdict.tests != u64::from(verdict.at) * file.states() as u64 + state as u64 + 1 {
+        return Vec::new();
+    }
+    let mut tested = case.singles.iter().zip(singles);
+    let higher = tested.any(|(&(condition, at), tested)| {
+        condition == verdict.at as usize && at > state && *tested == Tested::Fails
+    });
+    let negative = values().any(|(_, value)| value < 0);
+    told(&[
+        ("at state 0", state == 0),
+        ("at a later state", state > 0),
+        (
+            "at the last of several states",
+            state > 0 && state + 1 == file.states(),
+        ),
+        ("at a higher state too", higher),
+        ("at a negative value, not at state 0", state > 0 && negative),
+        (
+            "at a state of another number if the first variable were fastest",
+            first_fastest != state,
+        ),
+    ])
+}
 
 /// The file's situations.
 pub fn of(file: &[u8], facts: &Facts) -> Vec<&'static str> {

@@ -1,7 +1,7 @@
 //! What came up in the compared files.
 
 use crate::compare::{Answers, Case, Facts};
-use crate::situations::{self, SITUATIONS};
+use crate::situations::{self, BREAKING, SITUATIONS, UNNAMED};
 use independent::Tested;
 use std::collections::HashSet;
 
@@ -38,7 +38,10 @@ pub struct Tally {
     tested: [[[u64; 4]; 19]; 2],
     /// Conditions and states of single tests of readable files.
     edges: [[u64; 5]; 2],
-    situations: Vec<u64>,
+    situations: [u64; SITUATIONS.len()],
+    unnamed: [u64; UNNAMED.len()],
+    /// By the number of the broken condition.
+    breaking: [[u64; BREAKING.len()]; 19],
     /// Readable files that have too many tests for the whole check.
     singles_only: u64,
 }
@@ -52,7 +55,9 @@ impl Default for Tally {
             refused: [0; 19],
             tested: [[[0; 4]; 19]; 2],
             edges: [[0; 5]; 2],
-            situations: vec![0; SITUATIONS.len()],
+            situations: [0; SITUATIONS.len()],
+            unnamed: [0; UNNAMED.len()],
+            breaking: [[0; BREAKING.len()]; 19],
             singles_only: 0,
         }
     }
@@ -68,6 +73,16 @@ impl Tally {
                 self.checks[number][property] += 1;
                 self.places[number].insert(verdict.at);
                 self.rooms[case.room] += 1;
+                match &facts.reading {
+                    Ok(file) if number >= 13 => {
+                        let found = situations::breaking(case, file, verdict, &answers.singles);
+                        add(&mut self.breaking[number], &BREAKING, found);
+                    }
+                    _ => {
+                        let found = situations::unnamed(case, facts, verdict);
+                        add(&mut self.unnamed, &UNNAMED, found);
+                    }
+                }
             }
             None => self.singles_only += 1,
         }
@@ -85,10 +100,8 @@ impl Tally {
                 edge(&mut self.edges[1], state, facts.states);
             }
         }
-        for name in situations::of(&case.file, facts) {
-            let at = SITUATIONS.iter().position(|one| *one == name);
-            self.situations[at.expect("a situation of the list")] += 1;
-        }
+        let found = situations::of(&case.file, facts);
+        add(&mut self.situations, &SITUATIONS, found);
     }
 
     /// What must have come up so often.
@@ -134,6 +147,14 @@ impl Tally {
         for (&count, name) in self.situations.iter().zip(SITUATIONS) {
             least(name.to_string(), count, seldom);
         }
+        for (&count, name) in self.unnamed.iter().zip(UNNAMED) {
+            least(name.to_string(), count, often);
+        }
+        for (number, condition, _) in CONDITIONS {
+            for (&count, state) in self.breaking[number].iter().zip(BREAKING) {
+                least(format!("{condition} broken {state}"), count, seldom);
+            }
+        }
         least("single tests only".to_string(), self.singles_only, often);
         tests
     }
@@ -164,10 +185,30 @@ impl Tally {
                 println!("{number:6} {invariance:19} {wait_for:9} {chain:7}");
             }
         }
+        for (count, name) in self.unnamed.iter().zip(UNNAMED) {
+            println!("{count:6} {name}");
+        }
+        let names = CONDITIONS.map(|(_, name, _)| format!("{name:>9}"));
+        println!("{} broken", names.concat());
+        for (at, state) in BREAKING.iter().enumerate() {
+            let counts = CONDITIONS.map(|(number, _, _)| self.breaking[number][at]);
+            println!(
+                "{} {state}",
+                counts.map(|count| format!("{count:9}")).concat()
+            );
+        }
         println!("situations");
         for (count, name) in self.situations.iter().zip(SITUATIONS) {
             println!("{count:6} {name}");
         }
+    }
+}
+
+/// Counts what was found, by its place in the list.
+fn add(counts: &mut [u64], list: &[&str], found: Vec<&str>) {
+    for name in found {
+        let at = list.iter().position(|one| *one == name);
+        counts[at.expect("a situation of the list")] += 1;
     }
 }
 

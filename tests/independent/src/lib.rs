@@ -1,4 +1,4 @@
-//! The verification diagram checker of document 01, written from document 01 alone.
+//! The verification diagram checker of documents 01 and 02, written from them alone.
 //!
 //! Layers, from below: the records and their reading ([`read`]), the evaluating of
 //! expressions and transitions, the conditions and their judging ([`check`], [`single`]).
@@ -61,17 +61,21 @@ fn verdict(file: &[u8]) -> Verdict {
     }
 }
 
-/// "If conditions are broken, the lowest is given", here with its lowest breaking state.
+/// "If conditions are broken, the lowest is given", with its lowest breaking state. The tests are
+/// counted as they are made: condition by condition, state by state.
 fn judge(file: &File) -> Verdict {
     let conditions = file.conditions();
+    let mut tests = 0;
     for (number, condition) in conditions.iter().enumerate() {
         let obligation = Obligation::of(file, *condition);
-        let mut states = states::all(&file.variables);
-        if let Some(state) = states.find(|state| !obligation.holds(&file.variables, state)) {
-            return Verdict::broken(*condition, number, state);
+        for state in states::all(&file.variables) {
+            tests += 1;
+            if !obligation.holds(&file.variables, &state) {
+                return Verdict::broken(*condition, number, state, tests);
+            }
         }
     }
-    Verdict::accepted(conditions.len())
+    Verdict::accepted(conditions.len(), tests)
 }
 
 /// The single test of one condition at one state: refusals 2 to 12, else holds or fails.

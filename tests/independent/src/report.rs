@@ -10,7 +10,7 @@ const ACCEPTED: u8 = 0;
 /// Node and transition "where the condition has none or no condition is named".
 const NONE: u8 = 255;
 
-/// The check's result: the report's fields.
+/// The check's result: the report's fields, and the tests made.
 #[derive(Clone, Copy, Debug, PartialEq, Eq)]
 pub struct Verdict {
     pub number: u8,
@@ -18,36 +18,40 @@ pub struct Verdict {
     pub transition: u8,
     pub at: u32,
     pub values: [i16; 12],
+    /// How many tests of a condition at a state were made (document 02, item 2); not in the report.
+    pub tests: u64,
 }
 
 impl Verdict {
     /// A verdict that names no condition.
-    fn unnamed(number: u8, at: u32) -> Verdict {
+    fn unnamed(number: u8, at: u32, tests: u64) -> Verdict {
         Verdict {
             number,
             node: NONE,
             transition: NONE,
             at,
             values: [0; 12],
+            tests,
         }
     }
 
-    pub fn accepted(total: usize) -> Verdict {
-        Verdict::unnamed(ACCEPTED, total as u32)
+    pub fn accepted(total: usize, tests: u64) -> Verdict {
+        Verdict::unnamed(ACCEPTED, total as u32, tests)
     }
 
     pub fn refused(refusal: Refusal) -> Verdict {
-        Verdict::unnamed(refusal.number, refusal.place)
+        Verdict::unnamed(refusal.number, refusal.place, 0)
     }
 
     /// The condition of that number is broken at the state.
-    pub fn broken(condition: Condition, number: usize, state: State) -> Verdict {
+    pub fn broken(condition: Condition, number: usize, state: State, tests: u64) -> Verdict {
         Verdict {
             number: condition.number(),
             node: byte(condition.node()),
             transition: byte(condition.transition()),
             at: number as u32,
             values: state,
+            tests,
         }
     }
 

@@ -7,8 +7,9 @@
 --     total-invariance, total-wait-for, total-chain          how many, by diagram
 --     condition-opening, condition-cover, condition-move     the condition of a number, by the layout
 --     condition-node              behind the covers it is one of the conditions of the node found by a quotient
---     condition-listed            a number below the total has a condition of the list
+--     condition-listed, listed-number     a number below the total has a condition of the list, and a condition of the list has such a number
 --     listed-parts, cover-parts   what a listed condition, and the cover of a node covered, speaks of is there
+--     refusal-above               a broken condition's number of refusal is 13 or more
 -- Assumes nothing.
 use mathlib.Core.Path.{_≡_, refl, sym, ap, ap₂, _∙_}
 use mathlib.Core.Logic.{_⊎_, inl, inr}
@@ -29,12 +30,12 @@ use Rattle.reading.specs.Edge.{diagram}
 use Rattle.reading.specs.Read.{readOf}
 use Rattle.reading.proofs.Laws.Readable.{property-kind, transitions-within, nodes-within}
 use Rattle.conditions.specs.Edges.{isDouble}
-use Rattle.conditions.specs.Condition.{each, movesOf, conditionsFrom, conditionsOf, totalOf, conditionAt, Listed}
+use Rattle.conditions.specs.Condition.{each, movesOf, conditionsFrom, conditionsOf, totalOf, conditionAt, Listed, refusalNumber}
 use Rattle.conditions.specs.Layout.{doubleOf, openingOf, layoutOf, pairOf}
 use Rattle.conditions.specs.declared.Condition.{Condition}
 use Rattle.conditions.specs.declared.Condition.the-variants.{Start, Entry, Cover, Range, Step, Enabling}
 use Rattle.conditions.specs.declared.Blocks.{Blocks}
-use Rattle.conditions.proofs.Laws.Each.{each-same, each-length, each-at, each-in, at-in}
+use Rattle.conditions.proofs.Laws.Each.{each-same, each-length, each-at, each-in, at-in, member-at}
 use Rattle.conditions.proofs.Laws.Double.{double-is, double-some, double-none}
 
 -- what a condition speaks of is there
@@ -435,6 +436,10 @@ module _ (file : List ℕ) (o : Outline) (r : readOf file ≡ Reading.Readable o
   unfolding totalOf conditionAt
   condition-listed k l = at-in (conditionsOf file o) k Start l
 
+  pub listed-number : (c : Condition) → Listed file o c → (k : ℕ) × (k < totalOf file o) × (conditionAt file o k ≡ c)
+  unfolding totalOf conditionAt
+  listed-number c m = let x = member-at Start m in (x .index, x .below, x .is)
+
   opening-parts : (c : Condition) → c ≡ openingOf file o → Parts file o c
   opening-parts c e = by (property-kind file o r)
     where
@@ -487,3 +492,12 @@ module _ (file : List ℕ) (o : Outline) (r : readOf file ≡ Reading.Readable o
           ⊎ List·Memᴰ c (coversOf (layout .covers) ++ each (ofNode file o) (o .nodes - layout .from) (layout .from)) → Parts file o c
       opened (inl e) = opening-parts c e
       opened (inr h) = behind (List·Memᴰ·append-cases (coversOf (layout .covers)) h)
+
+pub refusal-above : (c : Condition) → 13 ≤ refusalNumber c
+unfolding refusalNumber
+refusal-above Start = omega arith
+refusal-above Entry = omega arith
+refusal-above (Cover n) = omega arith
+refusal-above (Range n t) = omega arith
+refusal-above (Step n t) = omega arith
+refusal-above (Enabling n t) = omega arith

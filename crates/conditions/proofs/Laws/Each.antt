@@ -1,4 +1,5 @@
 -- Laws of lists that are put together by number.
+--     each-none, each-more    of no number, and of one number more
 --     each-same               lists that agree at each number agree
 --     each-length, each-at    blocks of one size: an element is found by a quotient and a remainder
 --     each-in, in-each        an element stands in the list of some number, and what stands there is an element
@@ -15,6 +16,14 @@ use native.Mathlib.Omega.{arith}
 use lib.ListN.{length, getD, length-append, List·getD-append}
 use lib.Seq.{getD-append-add}
 use Rattle.conditions.specs.Condition.{each}
+
+pub each-none : {A : Type 0} (f : ℕ → List A) (at : ℕ) → each f 0 at ≡ []
+unfolding each
+each-none f at = refl
+
+pub each-more : {A : Type 0} (f : ℕ → List A) (n at : ℕ) → each f (suc n) at ≡ f at ++ each f n (at + 1)
+unfolding each
+each-more f n at = refl
 
 pub each-same : {A : Type 0} (f g : ℕ → List A) (n at : ℕ) → ((i : ℕ) → at ≤ i → i < at + n → f i ≡ g i) → each f n at ≡ each g n at
 unfolding each

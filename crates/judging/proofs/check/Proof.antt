@@ -1,8 +1,9 @@
--- `judging::check` meets its contract: a report that is too short is left as it is; the verdict is written to any other. An acceptance is sound.
+-- `judging::check` meets its contract: a report that is too short is left as it is; the verdict is written to any other. It decides, and an acceptance is
+-- sound.
 -- Assumes nothing.
 use mathlib.Core.Path.{sym, _∙_}
 use Rattle.report.proofs.Laws.Report.{report-short}
-use Rattle.judging.proofs.Laws.Check.{check-short, check-long, check-claims}
+use Rattle.judging.proofs.Laws.Check.{check-short, check-long, check-decides, check-claims}
 use borrow.Author.Needs.{needs}
 use Rattle.judging.proofs.check.Statement.{statement}
 use Rattle.judging.proofs.check.Tie as tie
@@ -13,7 +14,7 @@ unnamed-requires c κs = search needs
 returns : tie.Need-returns
 returns c =
     let e = c .unnamed .ensures ∙ sym (check-short _ _ (c .before .if1 .taken)) in
-    (e, (report-short _ _ (c .before .if1 .taken), check-claims _ _ e))
+    (e, (report-short _ _ (c .before .if1 .taken), (check-decides _ _ e, check-claims _ _ e)))
 
 verdict-requires : tie.Need-verdict-requires
 verdict-requires c κs = search needs
@@ -28,7 +29,7 @@ returns-2 : tie.Need-returns-2
 returns-2 c =
     let d = c .before .before .before .before in
     let e = d .verdict .ensures ∙ sym (check-long _ _ (d .before .if1 .left)) in
-    (e, (c .before .before .write-report .ensures, check-claims _ _ e))
+    (e, (c .before .before .write-report .ensures, (check-decides _ _ e, check-claims _ _ e)))
 
 pub check-spec : {M : Type 1} → statement M
 check-spec =

@@ -242,11 +242,20 @@ module _ (file : List ℕ) (o : Outline) (r : readOf file ≡ Reading.Readable o
               enabling-holds file o i t (all (Enabling i t) (enabling-in file o Entry 1 1 i t one h (double-there i one h) (double-leaves i one h)));
         }
 
+kind-within : (file : List ℕ) (o : Outline) → readOf file ≡ Reading.Readable o → (1 ≤ diagram file o) × (diagram file o ≤ 3)
+kind-within file o r = go (readable.property-kind file o r)
+  where
+    go : (diagram file o ≡ 2) ⊎ ((diagram file o ≡ 1) ⊎ (diagram file o ≡ 3)) → (1 ≤ diagram file o) × (diagram file o ≤ 3)
+    go (inl e) = (omega arith, omega arith)
+    go (inr (inl e)) = (omega arith, omega arith)
+    go (inr (inr e)) = (omega arith, omega arith)
+
 pub sound : (file : List ℕ) (o : Outline) → readOf file ≡ Reading.Readable o
     → ((c : Condition) → Listed file o c → (state : List ℤ) → State file (o .vars) state → conditionHolds file o c state ≡ true)
     → Claimed file o
 sound file o r all =
     record {
+      kind = kind-within file o r;
       invariance = λ kind.
           let c = invariance-conditions file o r kind (λ c m. all c (subst (List·Memᴰ c) (sym (invariance-lists file o kind)) m)) in (
             invariance (systemOf file o) (diagramOf file o) (qHolds file o 0) c,

@@ -1,7 +1,8 @@
 -- The system of a file has the states and steps of document 01, and none is missing.
 --     successor-state     the successor of an enabled transition at a state is a state
---     step-run            so a state and its successor are a run
---     state-run           and a state by itself is one: a run "begins in any state"
+--     steps-run           so whatever begins in a state and goes on by steps, idling or taking a transition, is a run: a state at each position
+--     step-run            a state and its successor are one
+--     state-run           and a state by itself: a run "begins in any state"
 --     idle-run            and a state for ever
 -- Assumes nothing.
 use mathlib.Core.Path.{_≡_, refl}
@@ -19,7 +20,7 @@ use Rattle.states.specs.State.{State}
 use Rattle.evaluating.specs.Transition.{enabledOf}
 use Rattle.evaluating.proofs.Laws.Readable as readable
 use Rattle.testing.specs.Holding.{guardHolds, valuesFit, nextState}
-use Rattle.runs.specs.Run.{finite, endless, Position, at, enabled, Next, IsRun}
+use Rattle.runs.specs.Run.{Run, finite, endless, Position, at, enabled, Next, IsRun}
 use Rattle.soundness.specs.System.{systemOf}
 use Rattle.truths.proofs.Laws.Truth.{is-true}
 
@@ -37,20 +38,33 @@ module _ (file : List ℕ) (o : Outline) (s : List ℤ) (w : State file (o .vars
   pub idle-run : IsRun (systemOf file o) (endless (λ n. s))
   idle-run = record { states = λ n p. w; steps = λ n p. inl refl }
 
-  module _ (r : readOf file ≡ Reading.Readable o) (t : ℕ) (e : T (enabled (systemOf file o) t s)) where
-    pub successor-state : State file (o .vars) (nextState file o t s)
-    unfolding nextState guardHolds valuesFit enabledOf
-    successor-state = readable.successor-within file o r s w (transitionAt file o t) (is-true _ e)
+module _ (file : List ℕ) (o : Outline) (r : readOf file ≡ Reading.Readable o) where
+  pub successor-state : (s : List ℤ) → State file (o .vars) s → (t : ℕ) → T (enabled (systemOf file o) t s) → State file (o .vars) (nextState file o t s)
+  unfolding nextState guardHolds valuesFit enabledOf
+  successor-state s w t e = readable.successor-within file o r s w (transitionAt file o t) (is-true _ e)
 
-    pub step-run : t < o .transitions → IsRun (systemOf file o) (finite s (nextState file o t s ∷ []))
-    step-run l = record { states = states; steps = steps }
+  next-state : {s s′ : List ℤ} → State file (o .vars) s → Next (systemOf file o) s s′ → State file (o .vars) s′
+  next-state w (inl e) = rw e w
+  next-state {s} w (inr (t, l, (e, is))) = rw is (successor-state s w t e)
+
+  earlier : (run : Run (List ℤ)) (n : ℕ) → Position run (suc n) → Position run n
+  earlier (finite s rest) n p = omega arith
+  earlier (endless σ) n p = tt
+
+  module _ (run : Run (List ℤ)) (w : State file (o .vars) (at run 0))
+      (steps : (n : ℕ) → Position run (suc n) → Next (systemOf file o) (at run n) (at run (suc n))) where
+    pub steps-run : IsRun (systemOf file o) run
+    steps-run = record { states = states; steps = steps }
       where
-        states : (n : ℕ) → Position (finite s (nextState file o t s ∷ [])) n → State file (o .vars) (at (finite s (nextState file o t s ∷ [])) n)
+        states : (n : ℕ) → Position run n → State file (o .vars) (at run n)
         states zero p = w
-        states (suc zero) p = successor-state
-        states (suc (suc n)) p = absurd (omega arith)
+        states (suc n) p = next-state (states n (earlier run n p)) (steps n p)
 
-        steps : (n : ℕ) → Position (finite s (nextState file o t s ∷ [])) (suc n)
-            → Next (systemOf file o) (at (finite s (nextState file o t s ∷ [])) n) (at (finite s (nextState file o t s ∷ [])) (suc n))
-        steps zero p = inr (t, l, (e, refl))
-        steps (suc n) p = absurd (omega arith)
+  pub step-run : (s : List ℤ) → State file (o .vars) s → (t : ℕ) → T (enabled (systemOf file o) t s) → t < o .transitions
+      → IsRun (systemOf file o) (finite s (nextState file o t s ∷ []))
+  step-run s w t e l = steps-run (finite s (nextState file o t s ∷ [])) w steps
+    where
+      steps : (n : ℕ) → Position (finite s (nextState file o t s ∷ [])) (suc n)
+          → Next (systemOf file o) (at (finite s (nextState file o t s ∷ [])) n) (at (finite s (nextState file o t s ∷ [])) (suc n))
+      steps zero p = inr (t, l, (e, refl))
+      steps (suc n) p = absurd (omega arith)

@@ -1,6 +1,7 @@
 -- What a file claims is no weaker than document 01 says, and no stronger: small files with the system of Files.antt, each with a claim that is false of its
 -- runs, or true. By a weaker definition of `Claimed` a false claim would be true, by a stronger one a true claim false.
 --                           claim     the clause that it protects
+--     no-kind               false     the property is of one of the three kinds
 --     invariance-q          false     q holds at every position, from a starting state
 --     invariance-range      false     values in range, in each node from 0 to the last, of each transition
 --     invariance-node       true      values in range in the nodes only
@@ -23,15 +24,22 @@ use native.Mathlib.Nat.{le-refl, add-zero}
 use native.Mathlib.Omega.{arith}
 use lib.Dec.{T, T-not, lit<, lit≤}
 use lib.IntN.{ℤ}
+use Rattle.parsing.specs.declared.Outline.{Outline}
 use Rattle.reading.proofs.Files.{double, plain, true}
 use Rattle.testing.specs.Diagram.{nodeHolds, pHolds, qHolds}
 use Rattle.runs.specs.Run.{Run, finite, Just, KJust, at}
 use Rattle.runs.specs.Claim.{Waiting}
-use Rattle.soundness.specs.System.{systemOf, Claim}
-use Rattle.soundness.proofs.Computing.{computing}
-use Rattle.soundness.proofs.Values.{v, state}
+use Rattle.soundness.specs.System.{systemOf, Claimed, Claim}
+use Rattle.testing.proofs.Computing.{computing}
+use Rattle.testing.proofs.Values.{v, state}
 use Rattle.soundness.proofs.Laws.System.{state-run, step-run, idle-run}
 use Rattle.soundness.proofs.Sharp.Files.{Case, is, invariance, wait-for, chain, file, outline, claims, refuted}
+
+-- ---- kinds
+-- a file without records has no property; with one field less `Claimed` would say nothing of it, and so be true
+pub no-kind : (o : Outline) → Claimed [] o → ⊥
+unfolding computing
+no-kind o c = omega (arith, c .kind .0)
 
 -- ---- invariance
 -- from the starting state v = 1 transition 0 leads to v = 2
@@ -41,7 +49,7 @@ left = invariance (is 1) (is 1 ∷ [])
 pub invariance-q : Claim (file left) → ⊥
 unfolding computing
 invariance-q = refuted left refl (λ c.
-    let run = step-run (file left) (outline left) (v 1) (state (lit≤ tt)) refl 0 tt (lit< tt) in
+    let run = step-run (file left) (outline left) refl (v 1) (state (lit≤ tt)) 0 tt (lit< tt) in
     c .invariance refl .0 (finite (v 1) (v 2 ∷ [])) run tt 1 (lit< tt))
 
 -- at v = 0 the guard of transition 1 is true, and v - 1 is out of range
@@ -61,6 +69,7 @@ trivial = invariance (true ∷ []) ((plain 0x21 ∷ []) ∷ [])
 pub invariance-node : Claim (file trivial)
 unfolding computing
 invariance-node = claims trivial refl (record {
+  kind = (lit≤ tt, lit≤ tt);
   invariance = λ e. (λ r run begins n h. tt, λ r run n h i from l y. absurd (nowhere i l (at r n) y));
   wait-for = λ e. absurd (omega arith);
   chain = λ e. absurd (omega arith);
@@ -78,7 +87,7 @@ passed = wait-for (is 0) (is 2 ∷ is 0 ∷ []) (is 2 ∷ is 1 ∷ [])
 pub wait-for-q : Claim (file passed) → ⊥
 unfolding computing
 wait-for-q = refuted passed refl (λ c.
-    let run = step-run (file passed) (outline passed) (v 0) (state (lit≤ tt)) refl 0 tt (lit< tt) in
+    let run = step-run (file passed) (outline passed) refl (v 0) (state (lit≤ tt)) 0 tt (lit< tt) in
     let x = c .wait-for refl .0 .numbered passing run 0 (lit< tt) tt in
     let one : x .number 1 ≡ 1 = omega (arith, x .from-one 1 waits, x .to-m 1 waits) in
     subst (λ (i : ℕ). T (qHolds (file passed) (outline passed) i (v 1))) one (x .hold 1 waits))
@@ -111,6 +120,7 @@ numbered = wait-for (is 0) (is 2 ∷ (true ∷ []) ∷ []) (is 2 ∷ (plain 0x21
 pub wait-for-numbers : Claim (file numbered)
 unfolding computing
 wait-for-numbers = claims numbered refl (record {
+  kind = (lit≤ tt, lit≤ tt);
   invariance = λ e. absurd (omega arith);
   wait-for = λ e. (
     record {
@@ -141,6 +151,7 @@ reached = wait-for (is 2) (is 2 ∷ []) (is 2 ∷ [])
 pub wait-for-goal : Claim (file reached)
 unfolding computing
 wait-for-goal = claims reached refl (record {
+  kind = (lit≤ tt, lit≤ tt);
   invariance = λ e. absurd (omega arith);
   wait-for = λ e. (
     record {
@@ -216,6 +227,7 @@ there = chain (is 2) (is 2) (is 2 ∷ []) []
 pub chain-goal : Claim (file there)
 unfolding computing
 chain-goal = claims there refl (record {
+  kind = (lit≤ tt, lit≤ tt);
   invariance = λ e. absurd (omega arith);
   wait-for = λ e. absurd (omega arith);
   chain = λ e. (

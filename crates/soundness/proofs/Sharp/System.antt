@@ -15,8 +15,8 @@ use lib.Dec.{lit≤}
 use lib.IntN.{ℤ}
 use Rattle.runs.specs.Run.{System}
 use Rattle.soundness.specs.System.{systemOf}
-use Rattle.soundness.proofs.Computing.{computing}
-use Rattle.soundness.proofs.Values.{v, state, state-most}
+use Rattle.testing.proofs.Computing.{computing}
+use Rattle.testing.proofs.Values.{v, state, state-most}
 use Rattle.soundness.proofs.Sharp.Files.{is, invariance, file, outline}
 
 abbrev M : System

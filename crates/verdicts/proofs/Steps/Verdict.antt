@@ -3,7 +3,8 @@
 use mathlib.Core.Path.{_≡_, sym, _∙_}
 use mathlib.Core.Bool.{Bool, true, false, cond}
 use mathlib.Core.List.{List}
-use Prim.Native.Nat.{ℕ, _+_, _/_, _<_, _≤_}
+use Prim.Native.Nat.{ℕ, _+_, _*_, _/_, _<_, _≤_}
+use native.Mathlib.Nat.{le-trans, mul-le-mul}
 use native.Mathlib.Omega.{arith}
 use borrow.Author.Count.{below-more}
 use borrow.Author.Tests.{le-leb, lt-leb}
@@ -124,13 +125,12 @@ module _ (file : List ℕ) (o : Outline) where
     pub here : n < stateCount file o → state ≡ stateAt file o n
     pub held : (k : ℕ) → k < n → test (stateAt file o k) ≡ true
 
-  -- the search was left at a state that breaks the condition
-  pub record Broke (number : ℕ) (state : List ℤ) : Type 0 where
-    pub at : ℕ
-    pub below : at < stateCount file o
-    pub is : state ≡ stateAt file o at
-    pub held : (k : ℕ) → k < at → conditionHolds file o (conditionAt file o number) (stateAt file o k) ≡ true
-    pub breaks : conditionHolds file o (conditionAt file o number) (stateAt file o at) ≡ false
+  -- the search was left at state n, the first that breaks the condition
+  pub record Broke (number : ℕ) (state : List ℤ) (n : ℕ) : Type 0 where
+    pub below : n < stateCount file o
+    pub is : state ≡ stateAt file o n
+    pub held : (k : ℕ) → k < n → conditionHolds file o (conditionAt file o number) (stateAt file o k) ≡ true
+    pub breaks : conditionHolds file o (conditionAt file o number) (stateAt file o n) ≡ false
 
 -- ---- one state after the other
 module _ (file : List ℕ) (o : Outline) {low high : List ℤ} {states : ℕ} (r : readOf file ≡ Reading.Readable o)
@@ -180,6 +180,13 @@ module _ {file : List ℕ} {o : Outline} {low high : List ℤ} {states : ℕ} {n
 
   states-all : states ≡ stateCount file o
   states-all = count-is file o (h .low-is) (h .high-is) (h .states-are)
+
+  -- so many tests are counted in 64 bits
+  pub tests-small : {number : ℕ} → number ≤ total → number * states ≤ 2182086656
+  tests-small l = mul-le-mul (le-trans l total-small) states-small
+
+  pub broke-small : {number n : ℕ} {state : List ℤ} → Broke file o number state n → n ≤ 1048576
+  broke-small b = omega (arith, b .below, states-all, states-small)
 
   -- ---- the state of a number
   pub state-asks : {n : ℕ} → n < states → Ranges low high × (n < countOf low high)
@@ -244,11 +251,10 @@ module _ {file : List ℕ} {o : Outline} {low high : List ℤ} {states : ℕ} {n
             → StatesPassed file o (holdsAt number) after (n + 1)
         passed-more f = pass-more file o (h .readable) (h .low-is) (h .high-is) states-all l p (sym (passes-is state) ∙ f)
 
-        pub passed-broke : passesOf low high file test state ≡ false → Broke file o number state
+        pub passed-broke : passesOf low high file test state ≡ false → Broke file o number state n
         passed-broke f =
             let m : n < stateCount file o = rw (← states-all) l in
             record {
-              at = n;
               below = m;
               is = p .here m;
               held = p .held;
@@ -265,10 +271,11 @@ module _ {file : List ℕ} {o : Outline} {low high : List ℤ} {states : ℕ} {n
           held = below-more _ number (s .held) (true-at file o (conditionAt file o number) (λ k j. p .held k (omega (arith, j, m, states-all))));
         }
 
-    pub searched-broke : number < total → {c : Condition} → c ≡ conditionAt file o number → {state : List ℤ} → Broke file o number state
-        → namedOf c number state ≡ judgedOf file o
-    searched-broke l is b =
-        rw (is, b .is) (sym (judged-broken file o number (rw (← h .total-is) l) (s .held) (b .at) (b .below) (b .held) (b .breaks)))
+    pub searched-broke : number < total → {c : Condition} → c ≡ conditionAt file o number → {state : List ℤ} {n : ℕ} → Broke file o number state n
+        → namedOf c number state (number * states + n + 1) ≡ judgedOf file o
+    searched-broke l is {state} {n} b =
+        rw (is, b .is, states-all)
+        (sym (judged-broken file o number (rw (← h .total-is) l) (s .held) n (b .below) (b .held) (b .breaks)))
 
-    pub searched-end : total ≤ number → unnamedOf 0 total ≡ judgedOf file o
-    searched-end l = rw (h .total-is) (sym (judged-whole file o (λ k j. s .held k (omega (arith, j, l, h .total-is)))))
+    pub searched-end : total ≤ number → unnamedOf 0 total (total * states) ≡ judgedOf file o
+    searched-end l = rw (h .total-is, states-all) (sym (judged-whole file o (λ k j. s .held k (omega (arith, j, l, h .total-is)))))

@@ -3,7 +3,8 @@
 use mathlib.Core.Bool.{true}
 use mathlib.Core.Path.{_≡_, _∙_}
 use mathlib.Core.Logic.{⊎-elim}
-use Prim.Native.Nat.{_-_, _<_}
+use Prim.Native.Nat.{_+_, _*_, _-_, _<_, _≤_}
+use native.Mathlib.Nat.{le-refl, le-of-lt}
 use native.Mathlib.Omega.{arith}
 use borrow.Author.Needs.{needs}
 use borrow.Author.Tests.{not-true, not-false}
@@ -12,9 +13,9 @@ use Rattle.conditions.specs.Condition.{conditionAt}
 use Rattle.testing.specs.Holding.{conditionHolds}
 use Rattle.testing.specs.Testing.{passesOf}
 use Rattle.testing.proofs.Laws.Testing.{passes-vacuous, passes-concluded}
-use Rattle.verdicts.proofs.Steps.Verdict.{Ready, looked-ready, state-asks, states-small, total-small, test-asks, named-asks}
-use Rattle.verdicts.proofs.Steps.Verdict.{StatesPassed, passed-begin, passed-from, passed-asks, advance-asks, passed-more, passed-broke, Broke}
-use Rattle.verdicts.proofs.Steps.Verdict.{searched-more, searched-broke, searched-end}
+use Rattle.verdicts.proofs.Steps.Verdict.{Ready, looked-ready, state-asks, states-small, total-small, tests-small, test-asks, named-asks}
+use Rattle.verdicts.proofs.Steps.Verdict.{StatesPassed, passed-begin, passed-from, passed-asks, advance-asks, passed-more, passed-broke}
+use Rattle.verdicts.proofs.Steps.Verdict.{Broke, broke-small, searched-more, searched-broke, searched-end}
 use Rattle.verdicts.proofs.first_break.Statement.{statement}
 use Rattle.verdicts.proofs.first_break.Tie as tie
 
@@ -26,11 +27,11 @@ abbrev μ-states : tie.MeasureT-states
 μ-states file outline spans low high states nodes transitions total sure end from start number state₀ test premise n₀ state n = states - n
 
 abbrev Inv-conditions : tie.InvT-conditions
-Inv-conditions file outline spans low high states nodes transitions total sure end from start number₀ state₀ number state =
+Inv-conditions file outline spans low high states nodes transitions total sure end from start number₀ state₀ n₀ number state n =
     Searched file outline number
 
 abbrev μ-conditions : tie.MeasureT-conditions
-μ-conditions file outline spans low high states nodes transitions total sure end from start number₀ state₀ number state = total - number
+μ-conditions file outline spans low high states nodes transitions total sure end from start number₀ state₀ n₀ number state n = total - number
 
 abbrev start : tie.After-state-of Inv-states μ-states Inv-conditions μ-conditions → tie.Start Inv-states μ-states Inv-conditions μ-conditions
 start c = c .before .before
@@ -44,14 +45,23 @@ ready c = let p = start c .pre in looked-ready (p .0) (p .1 .0) (p .1 .1 .0)
 broke : (c : tie.Left-conditions Inv-states μ-states Inv-conditions μ-conditions)
     → c .before .conditions .number < start (c .before .before) .args .total
     → Broke (start (c .before .before) .args .file .now) (start (c .before .before) .args .outline)
-    (c .before .conditions .number) (c .conditions-test .state)
+    (c .before .conditions .number) (c .conditions-test .state) (c .conditions-test .n)
 broke c below =
     ⊎-elim (λ w. absurd (omega (arith, below, w .0 .left)))
     (λ w.
-    rw (w .11)
-    (passed-broke (ready (c .before .before)) below (w .1 .ensures) (w .2 .ensures) (w .4 .inv) (w .5 .taken)
-    (passes-concluded _ _ _ _ _ (w .7 .ensures) (w .8 .taken) (w .9 .ensures) ∙ not-true _ (w .10 .taken))))
+    rw (w .7, w .8)
+    (⊎-elim (λ x. absurd (omega (arith, x .left, w .6 .taken)))
+    (λ x.
+    passed-broke (ready (c .before .before)) below (w .1 .ensures) (w .2 .ensures) (w .4 .inv) (x .0 .taken)
+    (passes-concluded _ _ _ _ _ (x .2 .ensures) (x .3 .taken) (x .4 .ensures) ∙ not-true _ (x .5 .taken)))
+    (w .5 .came)))
     (c .conditions-test .came)
+
+tests-fit : (c : tie.Left-conditions Inv-states μ-states Inv-conditions μ-conditions)
+    → c .before .conditions .number < start (c .before .before) .args .total
+    → c .before .conditions .number * start (c .before .before) .args .states + c .conditions-test .n + 1 ≤ 2183135233
+tests-fit c below =
+    omega (arith, tests-small (ready (c .before .before)) (le-of-lt below), broke-small (ready (c .before .before)) (broke c below))
 
 state-of-requires : tie.Need-state-of-requires Inv-states μ-states Inv-conditions μ-conditions
 state-of-requires c κs =
@@ -126,49 +136,61 @@ states-again c =
 add-number : tie.Need-add-number Inv-states μ-states Inv-conditions μ-conditions
 add-number c = omega (
   arith,
-  c .before .before .before .before .before .conditions-test .taken,
+  c .before .before .before .before .before .before .conditions-test .taken,
   total-small
-      (ready (c .before .before .before .before .before .before .before)),
+      (ready (c .before .before .before .before .before .before .before .before)),
 )
 
 conditions-less : tie.Need-conditions-less Inv-states μ-states Inv-conditions μ-conditions
-conditions-less c = omega (arith, c .before .before .before .before .before .conditions-test .taken)
+conditions-less c = omega (arith, c .before .before .before .before .before .before .conditions-test .taken)
 
 conditions-again : tie.Need-conditions-again Inv-states μ-states Inv-conditions μ-conditions
 conditions-again c =
-    searched-more (ready (c .before .before .before .before .before .before .before))
-    (c .before .before .before .before .before .before .conditions .inv) (c .before .before .before .before .before .conditions-test .taken)
-    (c .before .states .inv) (c .states-test .left)
+    searched-more (ready (c .before .before .before .before .before .before .before .before))
+    (c .before .before .before .before .before .before .before .conditions .inv)
+    (c .before .before .before .before .before .before .conditions-test .taken) (c .before .before .states .inv) (c .if4 .left)
 
 condition-at-requires-2 : tie.Need-condition-at-requires-2 Inv-states μ-states Inv-conditions μ-conditions
 condition-at-requires-2 c κs = (
   c .before .before .before .before .before .pre .0 .readable,
   omega
-      (arith, c .before .before .before .before .before .pre .1 .1 .0, c .if4 .taken),
+      (arith, c .before .before .before .before .before .pre .1 .1 .0, c .if5 .taken),
 )
 
 cast-named : tie.Need-cast-named Inv-states μ-states Inv-conditions μ-conditions
 cast-named c = record { fits = omega (arith, total-small (ready (c .before .before .before .before))) }
 
+mul-named : tie.Need-mul-named Inv-states μ-states Inv-conditions μ-conditions
+mul-named c = omega (arith, tests-fit (c .before .before) (c .before .if5 .taken))
+
+add-named : tie.Need-add-named Inv-states μ-states Inv-conditions μ-conditions
+add-named c = omega (arith, tests-fit (c .before .before .before) (c .before .before .if5 .taken))
+
+add-named-2 : tie.Need-add-named-2 Inv-states μ-states Inv-conditions μ-conditions
+add-named-2 c = omega (arith, tests-fit (c .before .before .before) (c .before .before .if5 .taken))
+
 named-requires : tie.Need-named-requires Inv-states μ-states Inv-conditions μ-conditions
-named-requires c κs = named-asks (ready (c .before .before .before .before)) (c .before .if4 .taken) (c .condition-at2 .ensures)
+named-requires c κs = named-asks (ready (c .before .before .before .before .before)) (c .before .before .if5 .taken) (c .before .condition-at2 .ensures)
 
 returns : tie.Need-returns Inv-states μ-states Inv-conditions μ-conditions
 returns c =
-    let d = c .before .before .before in
     c .named .ensures
-    ∙ searched-broke (ready (c .before .before .before .before .before)) (c .before .before .before .before .conditions .inv)
-    (c .before .before .if4 .taken) (c .before .condition-at2 .ensures) (broke d (c .before .before .if4 .taken))
+    ∙ searched-broke (ready (c .before .before .before .before .before .before)) (c .before .before .before .before .before .conditions .inv)
+    (c .before .before .before .if5 .taken) (c .before .before .condition-at2 .ensures)
+    (broke (c .before .before .before .before) (c .before .before .before .if5 .taken))
 
 cast-unnamed : tie.Need-cast-unnamed Inv-states μ-states Inv-conditions μ-conditions
 cast-unnamed c = record { fits = omega (arith, total-small (ready (c .before .before .before))) }
+
+mul-unnamed : tie.Need-mul-unnamed Inv-states μ-states Inv-conditions μ-conditions
+mul-unnamed c = omega (arith, tests-small (ready (c .before .before .before)) (le-refl _))
 
 unnamed-requires : tie.Need-unnamed-requires Inv-states μ-states Inv-conditions μ-conditions
 unnamed-requires c κs = search needs
 
 returns-2 : tie.Need-returns-2 Inv-states μ-states Inv-conditions μ-conditions
 returns-2 c = c .unnamed .ensures ∙ searched-end (ready (c .before .before .before .before)) (c .before .before .before .conditions .inv)
-    (c .before .if4 .left)
+    (c .before .if5 .left)
 
 pub first-break-spec : {M : Type 1} → statement M
 first-break-spec =
@@ -194,8 +216,12 @@ first-break-spec =
     conditions-again
     condition-at-requires-2
     cast-named
+    mul-named
+    add-named
+    add-named-2
     named-requires
     returns
     cast-unnamed
+    mul-unnamed
     unnamed-requires
     returns-2)

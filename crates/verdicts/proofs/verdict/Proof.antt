@@ -3,7 +3,7 @@
 use mathlib.Core.Path.{sym, _∙_}
 use native.Mathlib.Omega.{arith}
 use Rattle.reading.proofs.Laws.Refusal.{read-refuses}
-use Rattle.verdicts.specs.Verdict.{verdictBy}
+use Rattle.verdicts.specs.Verdict.{testsOf, verdictBy}
 use borrow.Author.Needs.{needs}
 use Rattle.verdicts.proofs.verdict.Statement.{statement}
 use Rattle.verdicts.proofs.verdict.Tie as tie
@@ -29,11 +29,11 @@ unnamed-requires : tie.Need-unnamed-requires
 unnamed-requires c κs = search needs
 
 returns : tie.Need-returns
-unfolding verdictBy
+unfolding verdictBy testsOf
 returns c = c .judge .ensures ∙ simp (sym (c .before .before .before .before .read .ensures) ∙ c .before .before .found .given .1)
 
 returns-2 : tie.Need-returns-2
-unfolding verdictBy
+unfolding verdictBy testsOf
 returns-2 c = c .unnamed .ensures ∙ simp (sym (c .before .before .before .before .read .ensures) ∙ c .before .before .found2 .given .1)
 
 pub verdict-spec : {M : Type 1} → statement M

@@ -1,7 +1,7 @@
-//! Verdicts, reports and single tests.
+//! Verdicts with their tests, reports and single tests.
 
 use super::examples::example;
-use super::{answers, report, tests, unnamed, Records, CHECKERS};
+use super::{acceptance, answers, refusal, report, tests, Records, CHECKERS};
 use differential::generate::record;
 use independent::{Tested, Verdict};
 
@@ -58,24 +58,28 @@ fn file(
     records.concat()
 }
 
-/// A broken condition: number, node, transition, condition, and the value of variable 0.
-#[track_caller]
-fn broken(file: &[u8], number: u8, node: u8, transition: u8, at: u32, value: i16) {
+/// A broken condition: number, node, transition, condition, the value of variable 0, and the tests.
+fn named(number: u8, node: u8, transition: u8, at: u32, value: i16, tests: u64) -> Verdict {
     let mut values = [0; 12];
     values[0] = value;
-    let expected = Verdict {
+    Verdict {
         number,
         node,
         transition,
         at,
         values,
-    };
-    answers(file, expected);
+        tests,
+    }
 }
 
 #[track_caller]
-fn accepted(file: &[u8], total: u32) {
-    answers(file, unnamed(0, total));
+fn broken(file: &[u8], number: u8, node: u8, transition: u8, at: u32, value: i16, tests: u64) {
+    answers(file, named(number, node, transition, at, value, tests));
+}
+
+#[track_caller]
+fn accepted(file: &[u8], total: u32, tests: u64) {
+    answers(file, acceptance(total, tests));
 }
 
 /// Whether the condition holds, state by state.
@@ -95,24 +99,25 @@ fn single_refused(file: &[u8], condition: usize, state: usize, number: u8, place
 #[test]
 fn examples() {
     // "A: 17, report 1100000003000000 0100, then 22 zero bytes"; of the others document 01 gives
-    // the number and what else is named. F and I name the record of their edge, as 9 does.
-    for (name, first_bytes) in [
-        ("A", "1100000003000000 0100"),
-        ("B", "00ffff0004000000"),
-        ("C", "1000000002000000 0200"),
-        ("D", "00ffff0008000000"),
-        ("E", "1102000006000000"),
-        ("F", "09ffff001e000000"),
-        ("G", "0affff0002000000"),
-        ("H", "00ffff0008000000"),
-        ("I", "09ffff0028000000"),
-        ("J", "00ffff0004000000"),
-        ("no bytes", "03ffff0000000000"),
-        ("7 bytes", "02ffff0000000000"),
-        ("0..1023 twice", "00ffff0002000000"),
-        ("0..1023 and 0..1024", "07ffff0001000000"),
-        ("1000 × 1000", "00ffff0002000000"),
-        ("1000 × 1001", "08ffff0003000000"),
+    // the number and what else is named. F and I name the record of their edge, as 9 does. A to I
+    // have 3 states, J has 4.
+    for (name, first_bytes, tests) in [
+        ("A", "1100000003000000 0100", 11),
+        ("B", "00ffff0004000000", 12),
+        ("C", "1000000002000000 0200", 9),
+        ("D", "00ffff0008000000", 24),
+        ("E", "1102000006000000", 19),
+        ("F", "09ffff001e000000", 0),
+        ("G", "0affff0002000000", 0),
+        ("H", "00ffff0008000000", 24),
+        ("I", "09ffff0028000000", 0),
+        ("J", "00ffff0004000000", 16),
+        ("no bytes", "03ffff0000000000", 0),
+        ("7 bytes", "02ffff0000000000", 0),
+        ("0..1023 twice", "00ffff0002000000", 2_097_152),
+        ("0..1023 and 0..1024", "07ffff0001000000", 0),
+        ("1000 × 1000", "00ffff0002000000", 2),
+        ("1000 × 1001", "08ffff0003000000", 0),
     ] {
         let file = example(name);
         let expected = format!("{:0<64}", first_bytes.replace(' ', ""));
@@ -122,6 +127,7 @@ fn examples() {
             let printed: String = bytes.iter().map(|byte| format!("{byte:02x}")).collect();
             assert_eq!(printed, expected, "{name}, {checker}");
             assert_eq!(report(&verdict), bytes, "{name}, {checker}");
+            assert_eq!(verdict.tests, tests, "{name}, {checker}");
         }
     }
 }
@@ -152,9 +158,10 @@ fn samples() {
 #[test]
 fn buffers() {
     for (name, expected) in [
-        ("B", unnamed(0, 4)),
-        ("F", unnamed(9, 30)),
-        ("7 bytes", unnamed(2, 0)),
+        ("A", named(17, 0, 0, 3, 1, 11)),
+        ("B", acceptance(4, 12)),
+        ("F", refusal(9, 30)),
+        ("7 bytes", refusal(2, 0)),
     ] {
         let file = example(name);
         for (checker, check, _) in CHECKERS {
@@ -163,8 +170,8 @@ fn buffers() {
                 let mut after = before.clone();
                 let verdict = check(&file, &mut after[..room]);
                 if room < 32 {
-                    // "Refusal 1 writes nothing."
-                    assert_eq!(verdict, unnamed(1, 0), "{name}, {checker}, {room}");
+                    // "Refusal 1 writes nothing." It takes no tests either.
+                    assert_eq!(verdict, refusal(1, 0), "{name}, {checker}, {room}");
                     assert_eq!(after, before, "{name}, {checker}, {room}");
                 } else {
                     assert_eq!(verdict, expected, "{name}, {checker}, {room}");
@@ -226,21 +233,21 @@ fn start_entry_cover() {
     let at_most = compare(0x29, 1);
     let property = (1, 0, &[always()][..]);
     let inv = file((0, 2), at_most.clone(), &[], property, &[equal(0)], &[]);
-    broken(&inv, 13, 255, 255, 0, 1);
+    broken(&inv, 13, 255, 255, 0, 1, 2);
     holds(&inv, 0, &[true, false, true]);
     // The lowest condition, though a lower state breaks a higher one: node 1 is v = -3, q v = -2.
     let nodes = [equal(-2), equal(-3)];
     let inv = file((-3, 0), equal(0), &[], (1, 0, &[equal(-2)]), &nodes, &[]);
-    broken(&inv, 13, 255, 255, 0, 0);
+    broken(&inv, 13, 255, 255, 0, 0, 4);
     holds(&inv, 2, &[false, true, true, true]);
     let inv = file((-3, 0), equal(-3), &[], (1, 0, &[equal(-2)]), &nodes, &[]);
-    broken(&inv, 15, 1, 255, 2, -3);
+    broken(&inv, 15, 1, 255, 2, -3, 9);
 
     // Wait-for: p v at most 1, q_0 v = 1, q_1 v = 0; nodes v = 1 and v = 0. The start is no matter.
     let truths = [at_most.clone(), equal(1), equal(0)];
     let nodes = [equal(1), equal(0)];
     let wait_for = |truths: &[Records]| file((0, 2), always(), &[], (2, 2, truths), &nodes, &[]);
-    accepted(&wait_for(&truths), 3);
+    accepted(&wait_for(&truths), 3, 9);
     broken(
         &wait_for(&[always(), equal(1), equal(0)]),
         14,
@@ -248,10 +255,11 @@ fn start_entry_cover() {
         255,
         0,
         2,
+        3,
     );
     // Each node has its own q.
     let swapped = [at_most, equal(0), equal(1)];
-    broken(&wait_for(&swapped), 15, 0, 255, 1, 1);
+    broken(&wait_for(&swapped), 15, 0, 255, 1, 1, 5);
     holds(&wait_for(&swapped), 2, &[false, true, true]);
     // With one phase q_0 holds where p does.
     let one = |q| {
@@ -264,8 +272,8 @@ fn start_entry_cover() {
             &[],
         )
     };
-    accepted(&one(equal(1)), 2);
-    broken(&one(equal(0)), 15, 0, 255, 1, 1);
+    accepted(&one(equal(1)), 2, 6);
+    broken(&one(equal(0)), 15, 0, 255, 1, 1, 5);
 
     // Chain: only node 0 must imply q.
     let down = [step(1, &always(), 0)];
@@ -274,10 +282,10 @@ fn start_entry_cover() {
         let edges = [(0, 1, 0, 1)];
         file((0, 1), always(), &down, (3, 0, &[p, q]), &nodes, &edges)
     };
-    broken(&chain(always(), always(), equal(1)), 14, 255, 255, 0, 0);
-    broken(&chain(equal(1), equal(0), equal(1)), 15, 0, 255, 1, 1);
+    broken(&chain(always(), always(), equal(1)), 14, 255, 255, 0, 0, 1);
+    broken(&chain(equal(1), equal(0), equal(1)), 15, 0, 255, 1, 1, 4);
     // Node 1, v = 1, doesn't imply q; the step keeps v = 1, which node 0 has.
-    accepted(&chain(equal(1), always(), equal(1)), 5);
+    accepted(&chain(equal(1), always(), equal(1)), 5, 10);
 }
 
 #[test]
@@ -296,10 +304,10 @@ fn range_and_step() {
     };
     // 0 start, 1 and 2 cover, 3 to 10 range and step by node, by transition. Without an edge the
     // node must be kept.
-    broken(&inv(&[]), 17, 0, 0, 4, 0);
-    broken(&inv(&[(0, 0, 1, 0)]), 17, 0, 1, 6, 0);
+    broken(&inv(&[]), 17, 0, 0, 4, 0, 9);
+    broken(&inv(&[(0, 0, 1, 0)]), 17, 0, 1, 6, 0, 13);
     let edges = [(0, 0, 1, 0), (1, 0, 1, 0)];
-    broken(&inv(&edges), 16, 1, 0, 7, 1);
+    broken(&inv(&edges), 16, 1, 0, 7, 1, 16);
     holds(&inv(&edges), 8, &[true, true]);
     holds(&inv(&edges), 10, &[true, false]);
     holds(&inv(&[edges[0], edges[1], (1, 1, 0, 0)]), 10, &[true, true]);
@@ -313,8 +321,8 @@ fn range_and_step() {
         let property = (2, 2, &truths[..]);
         file((0, 1), equal(0), &transitions, property, &nodes, edges)
     };
-    broken(&wait_for(&[]), 17, 1, 0, 4, 0);
-    accepted(&wait_for(&[(0, 1, 0, 0), (1, 1, 0, 0)]), 7);
+    broken(&wait_for(&[]), 17, 1, 0, 4, 0, 9);
+    accepted(&wait_for(&[(0, 1, 0, 0), (1, 1, 0, 0)]), 7, 14);
 }
 
 #[test]
@@ -326,17 +334,17 @@ fn double_and_enabling() {
         let property = (3, 0, &[always(), equal(2)][..]);
         file((0, 2), equal(0), transitions, property, nodes, &edges)
     };
-    accepted(&chain(&[step(1, &compare(0x28, 2), 1)], &nodes), 8);
+    accepted(&chain(&[step(1, &compare(0x28, 2), 1)], &nodes), 8, 24);
     // Enabling comes behind the step of the double transition: 2 range, 3 step, 4 enabling of node 1.
     let only_first = chain(&[step(1, &equal(0), 1)], &nodes);
-    broken(&only_first, 18, 1, 0, 4, 1);
+    broken(&only_first, 18, 1, 0, 4, 1, 14);
     holds(&only_first, 7, &[true; 3]);
     // The source node isn't enough after a double step.
     let stays = chain(&[step(1, &always(), 0)], &nodes);
-    broken(&stays, 17, 1, 0, 3, 1);
+    broken(&stays, 17, 1, 0, 3, 1, 11);
     // By a single transition it is: transition 1 adds 0.
     let both = [step(1, &compare(0x28, 2), 1), step(1, &always(), 0)];
-    accepted(&chain(&both, &nodes), 12);
+    accepted(&chain(&both, &nodes), 12, 36);
     // Where a value is out of range, the transition is not enabled: range and enabling are broken.
     let out = chain(&[step(1, &always(), -1)], &nodes);
     holds(&out, 2, &[true; 3]);
@@ -360,7 +368,7 @@ fn totals() {
         (32, 1),
         (32, 32),
     ] {
-        // All truths are true and all steps idle.
+        // All truths are true and all steps idle. There is one state: a test for each condition.
         let steps = vec![step(1, &always(), 0); transitions];
         let assertions = vec![always(); nodes];
         let truths = vec![always(); nodes + 1];
@@ -368,6 +376,7 @@ fn totals() {
         let of = |property: (u8, i16, &[Records]), edges: &[_]| {
             file((0, 0), always(), &steps, property, &assertions, edges)
         };
+        let accepted = |file: &[u8], total: u32| accepted(file, total, total.into());
         accepted(&of((1, 0, &truths[..1]), &[]), 1 + n + 2 * n * t);
         let phases = (2, nodes as i16, &truths[..]);
         accepted(&of(phases, &[]), 1 + n + 2 * (n - 1) * t);

@@ -1,6 +1,7 @@
-//! Answers given by document 01 or worked out by hand, which both checkers must give.
+//! Answers given by the documents or worked out by hand, which both checkers must give.
 
 mod checking;
+mod counting;
 mod evaluating;
 mod examples;
 mod readings;
@@ -17,14 +18,22 @@ const CHECKERS: [(&str, Check, Single); 2] = [
     ("independent", independent::check, independent::single),
 ];
 
-/// A verdict that names no condition.
-fn unnamed(number: u8, at: u32) -> Verdict {
+/// A refusal that names no condition.
+fn refusal(number: u8, place: u32) -> Verdict {
     Verdict {
         number,
         node: 255,
         transition: 255,
-        at,
+        at: place,
         values: [0; 12],
+        tests: 0,
+    }
+}
+
+fn acceptance(total: u32, tests: u64) -> Verdict {
+    Verdict {
+        tests,
+        ..refusal(0, total)
     }
 }
 

@@ -1,6 +1,6 @@
 //! Answers worked out by hand, where document 01 leaves a choice or refusals meet.
 
-use super::{answers, tests, unnamed, Records, CHECKERS};
+use super::{answers, refusal, tests, Records, CHECKERS};
 use differential::generate::record;
 use independent::Tested;
 
@@ -79,7 +79,7 @@ fn readable(records: &Records) {
 fn refused(number: u8, place: usize, records: &Records) {
     let file = records.concat();
     let place = place as u32;
-    answers(&file, unnamed(number, place));
+    answers(&file, refusal(number, place));
     tests(&file, 0, 0, Tested::Refused { number, place });
 }
 
@@ -431,7 +431,7 @@ fn length() {
     ] {
         for (checker, check, _) in CHECKERS {
             let verdict = check(&file, &mut [0; 32]);
-            assert_eq!(verdict, unnamed(number, 0), "{name}, {checker}");
+            assert_eq!(verdict, refusal(number, 0), "{name}, {checker}");
         }
     }
 }

@@ -1,5 +1,5 @@
 //! The check against the single test, over changed examples: the lowest broken condition and its
-//! lowest breaking state, or all hold.
+//! lowest breaking state, or all hold; and the tests that this takes.
 
 use crate::builder::{count, verdict, Bytes};
 use crate::examples::*;
@@ -51,6 +51,7 @@ fn by_single_tests(bytes: &[u8]) -> Verdict {
         transition: 255,
         at: 0,
         values: [0; 12],
+        tests: 0,
     };
     let file = match read(bytes) {
         Ok(file) => file,
@@ -72,12 +73,14 @@ fn by_single_tests(bytes: &[u8]) -> Verdict {
                     transition: condition.transition().map_or(255, |number| number as u8),
                     at: at as u32,
                     values: values(&file, state),
+                    tests: (at * file.states() + state + 1) as u64,
                 };
             }
         }
     }
     Verdict {
         at: conditions.len() as u32,
+        tests: (conditions.len() * file.states()) as u64,
         ..none
     }
 }
@@ -121,9 +124,10 @@ fn any_bytes_are_answered() {
         let verdict = check(&file, &mut report);
         if before.len() < 32 {
             assert_eq!((verdict.number, report), (1, before));
+            assert_eq!(verdict.tests, 0);
         } else {
             assert!((2..=4).contains(&verdict.number));
-            assert_eq!(report[0], verdict.number);
+            assert_eq!((report[0], verdict.tests), (verdict.number, 0));
         }
         assert!(matches!(
             single(&file, round, round),

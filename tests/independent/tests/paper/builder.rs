@@ -1,6 +1,6 @@
 //! Building files from records, and short ways to ask the checker.
 
-use independent::{check, Verdict};
+use independent::{check, read, Verdict};
 
 pub type Bytes = Vec<u8>;
 
@@ -186,11 +186,17 @@ fn bytes(verdict: &Verdict) -> Vec<u8> {
     report
 }
 
-/// Number and place of a verdict that names no condition.
+/// Number and place or total of a verdict that names no condition. Every test of an accepted file
+/// is made, and none of a refused one.
 pub fn unnamed(file: &[u8]) -> (u8, u32) {
     let verdict = verdict(file);
     assert_eq!((verdict.node, verdict.transition), (255, 255));
     assert_eq!(verdict.values, [0; 12]);
+    let tests = match verdict.number {
+        0 => u64::from(verdict.at) * read(file).unwrap().states() as u64,
+        _ => 0,
+    };
+    assert_eq!(verdict.tests, tests);
     (verdict.number, verdict.at)
 }
 

@@ -257,7 +257,7 @@ fn a_short_buffer_is_left_alone() {
         assert_eq!(report, vec![0x77; length]);
         assert_eq!((verdict.number, verdict.at), (1, 0));
         assert_eq!((verdict.node, verdict.transition), (255, 255));
-        assert_eq!(verdict.values, [0; 12]);
+        assert_eq!((verdict.values, verdict.tests), ([0; 12], 0));
     }
     // 1 is tried before 2.
     assert_eq!(check(&[1; 7], &mut [0; 31]).number, 1);

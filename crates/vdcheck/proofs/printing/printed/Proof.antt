@@ -1,4 +1,4 @@
--- `vdcheck::printing::printed` meets its contract: the report is the check's, and the line is the report's. Assumes nothing.
+-- `vdcheck::printing::printed` meets its contract: the report and the tests are the check's, and the line is the report's. Assumes nothing.
 use borrow.Author.Needs.{needs}
 use mathlib.Core.Path.{_≡_, ap, _∙_}
 use lib.ListN.{replicate}
@@ -31,8 +31,9 @@ returns : tie.Need-returns
 returns c =
     let k = c .before .before .check in
     let verdict : k .result ≡ checkOf (c .before .before .before .before .before .args .file .now) 32 = k .ensures .0 in
+    let number = ap (λ (v : Verdict). v .number) verdict in
     let is = line-is c in
-    (is, λ a b. k .ensures .1 .1 (ap (λ (v : Verdict). v .number) verdict ∙ printed-zero _ (rw is at a) (rw is at b)))
+    (is, (ap (λ (v : Verdict). v .tests) verdict, λ a b. k .ensures .1 .1 .1 (number ∙ printed-zero _ (rw is at a) (rw is at b))))
 
 pub printed-spec : {M : Type 1} → statement M
 printed-spec = tie.close (tie.spec slice-aggregate-check check-requires line-requires returns)

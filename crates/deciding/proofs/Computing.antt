@@ -1,0 +1,23 @@
+-- What antt unfolds to compute the verdict on a file, beyond what it unfolds to compute its system and diagram.
+-- Assumes nothing.
+use Rattle.truths.specs.Truth
+use Rattle.truths.specs.Search
+use Rattle.states.specs.Number
+use Rattle.conditions.specs.Edges
+use Rattle.conditions.specs.Condition
+use Rattle.testing.specs.Holding
+use Rattle.testing.proofs.Computing.{computing}
+use Rattle.verdicts.specs.Verdict
+use Rattle.deciding.specs.Decision
+
+-- `unfolding deciding` unfolds all that stands here
+unfoldable pub deciding : Unit {0}
+unfolding computing Number.countOf Number.stateOf Number.numberOf
+    Search.firstFailingFrom Search.firstFailing Edges.carries Edges.isDouble
+    Condition.each Condition.movesOf Condition.conditionsFrom Condition.conditionsOf Condition.totalOf Condition.conditionAt
+    Condition.refusalNumber Condition.nodeNumber Condition.transitionNumber
+    Truth.implies Holding.isEnabled Holding.someNode Holding.someTarget Holding.conditionHolds
+    Verdict.stateCount Verdict.stateAt Verdict.stateNumber Verdict.breakingOf Verdict.isTrue Verdict.brokenOf
+    Verdict.brokenAt Verdict.testsOf Verdict.judgedOf Verdict.verdictBy Verdict.checkOf
+    Decision.upToFailing Decision.testsInOrder Decision.testsMade
+deciding = tt

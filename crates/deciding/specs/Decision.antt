@@ -1,0 +1,61 @@
+-- Demand 2, in its own words, of the verdict on a readable file with outline o; and, of document 02, item 2: the state named is the lowest-numbered,
+-- and the tests made are those of a walk, condition by condition and state by state, up to the first that fails.
+use mathlib.Core.Path.{_≡_}
+use mathlib.Core.Logic.{_↔_}
+use mathlib.Core.Bool.{Bool, true, false, cond}
+use mathlib.Core.List.{List, [], _∷_}
+use Prim.Native.Nat.{ℕ, _<_, _≤_}
+use lib.ListN.{length}
+use lib.IntN.{ℤ}
+use Rattle.parsing.specs.declared.Outline.{Outline}
+use Rattle.reading.specs.declared.Reading.{Reading}
+use Rattle.reading.specs.Read.{readOf}
+use Rattle.states.specs.State.{State}
+use Rattle.conditions.specs.Condition.{each, totalOf, conditionAt, Listed, refusalNumber, nodeNumber, transitionNumber}
+use Rattle.conditions.specs.declared.Condition.{Condition}
+use Rattle.testing.specs.Holding.{conditionHolds}
+use Rattle.report.specs.declared.Verdict.{Verdict}
+use Rattle.verdicts.specs.Verdict.{stateCount, stateAt, stateNumber}
+
+-- a condition is true at every state in the ranges: whatever values a state has
+abbrev pub Everywhere : List ℕ → Outline → Condition → Type 0
+Everywhere file o c = (state : List ℤ) → State file (o .vars) state → conditionHolds file o c state ≡ true
+
+-- the verdict names the first untrue condition with a state that breaks it; every state with a lower number passes
+pub record Names (file : List ℕ) (o : Outline) (v : Verdict) : Type 0 where
+  pub below : v .at < totalOf file o
+  pub number : v .number ≡ refusalNumber (conditionAt file o (v .at))
+  pub node : v .node ≡ nodeNumber (conditionAt file o (v .at))
+  pub transition : v .transition ≡ transitionNumber (conditionAt file o (v .at))
+  pub first : (k : ℕ) → k < v .at → Everywhere file o (conditionAt file o k)
+  pub state : State file (o .vars) (v .values)
+  pub breaks : conditionHolds file o (conditionAt file o (v .at)) (v .values) ≡ false
+  pub lowest : (s : List ℤ) → State file (o .vars) s → stateNumber file o s < stateNumber file o (v .values)
+      → conditionHolds file o (conditionAt file o (v .at)) s ≡ true
+
+-- ---- the tests made
+-- a list up to the first element that fails the test, which is then its last
+unfoldable pub upToFailing : {A : Type 0} → (A → Bool) → List A → List A
+upToFailing test [] = []
+upToFailing test (x ∷ rest) = x ∷ cond (test x) (upToFailing test rest) []
+
+-- all tests, each by the numbers of its condition and of its state: condition by condition, state by state
+unfoldable pub testsInOrder : ℕ → ℕ → List (ℕ × ℕ)
+testsInOrder total states = each (λ c. each (λ n. (c, n) ∷ []) states 0) total 0
+
+-- those that are made
+unfoldable pub testsMade : List ℕ → Outline → List (ℕ × ℕ)
+testsMade file o =
+    upToFailing (λ (test : ℕ × ℕ). conditionHolds file o (conditionAt file o (test .0)) (stateAt file o (test .1)))
+    (testsInOrder (totalOf file o) (stateCount file o))
+
+-- ---- the verdict
+-- accepted exactly when every condition is true at every state; otherwise the first untrue one is named
+pub record Judges (file : List ℕ) (o : Outline) (v : Verdict) : Type 0 where
+  pub accepts : (v .number ≡ 0) ↔ ((c : Condition) → Listed file o c → Everywhere file o c)
+  pub names : (v .number ≡ 0 → ⊥) → Names file o v
+  pub tests : v .tests ≡ length (testsMade file o)
+
+-- of any file, and a report buffer of `room` bytes
+abbrev pub Decides : List ℕ → ℕ → Verdict → Type 0
+Decides file room v = (o : Outline) → readOf file ≡ Reading.Readable o → 32 ≤ room → Judges file o v

@@ -1,0 +1,2 @@
+-- Demand 2, in its own words.
+pub mod Decision

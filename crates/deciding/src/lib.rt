@@ -1,0 +1,1 @@
+// Demand 2: what the verdict on a readable file decides.

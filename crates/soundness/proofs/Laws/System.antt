@@ -21,6 +21,7 @@ use Rattle.evaluating.specs.Transition.{enabledOf}
 use Rattle.evaluating.proofs.Laws.Readable as readable
 use Rattle.testing.specs.Holding.{guardHolds, valuesFit, nextState}
 use Rattle.runs.specs.Run.{Run, finite, endless, Position, at, enabled, Next, IsRun}
+use Rattle.runs.proofs.Laws.Run.{earlier}
 use Rattle.soundness.specs.System.{systemOf}
 use Rattle.truths.proofs.Laws.Truth.{is-true}
 
@@ -46,10 +47,6 @@ module _ (file : List ℕ) (o : Outline) (r : readOf file ≡ Reading.Readable o
   next-state : {s s′ : List ℤ} → State file (o .vars) s → Next (systemOf file o) s s′ → State file (o .vars) s′
   next-state w (inl e) = rw e w
   next-state {s} w (inr (t, l, (e, is))) = rw is (successor-state s w t e)
-
-  earlier : (run : Run (List ℤ)) (n : ℕ) → Position run (suc n) → Position run n
-  earlier (finite s rest) n p = omega arith
-  earlier (endless σ) n p = tt
 
   module _ (run : Run (List ℤ)) (w : State file (o .vars) (at run 0))
       (steps : (n : ℕ) → Position run (suc n) → Next (systemOf file o) (at run n) (at run (suc n))) where

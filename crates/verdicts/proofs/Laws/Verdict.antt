@@ -1,6 +1,7 @@
 -- Laws of the verdict on a readable file.
 --     state-numbered, number-state     each number below that of the states has a state, and each state such a number: they determine each other
---     true-at, breaks-at               a condition that holds at every number's state is true; the first state that breaks it
+--     true-at, true-holds              a condition is true exactly if it holds at every number's state
+--     Breaks, breaks-first             the first state that breaks a condition; one that is not true has it
 --     judged-broken, judged-whole      the verdict where a condition is broken, those before it true; and where none is
 --     Broken, Whole, judged-cases      it is one of these two
 -- Assumes nothing.
@@ -40,15 +41,31 @@ module _ (file : List ℕ) (o : Outline) where
       let s = stateCount file o in
       rw (first-is (holds-at c) s s (le-refl s) h (λ l. absurd (lt-irrefl s l))) (le-leb s s (le-refl s))
 
-  module _ (c : Condition) (n : ℕ) (l : n < stateCount file o) (before : (k : ℕ) → k < n → conditionHolds file o c (stateAt file o k) ≡ true)
-      (fails : conditionHolds file o c (stateAt file o n) ≡ false) where
-    pub breaks-at : breakingOf file o c ≡ n
+  pub true-holds : (c : Condition) → isTrue file o c ≡ true → (n : ℕ) → n < stateCount file o → conditionHolds file o c (stateAt file o n) ≡ true
+  unfolding isTrue breakingOf
+  true-holds c t n l = first-passes (holds-at c) (stateCount file o) n (lt-of-lt-of-le l (leb-true _ _ t))
+
+  -- n is the first state that breaks the condition
+  pub record Breaks (c : Condition) (n : ℕ) : Type 0 where
+    pub state : n < stateCount file o
+    pub held : (k : ℕ) → k < n → conditionHolds file o c (stateAt file o k) ≡ true
+    pub fails : conditionHolds file o c (stateAt file o n) ≡ false
+
+  module _ (c : Condition) {n : ℕ} (b : Breaks c n) where
+    breaks-at : breakingOf file o c ≡ n
     unfolding breakingOf
-    breaks-at = first-is (holds-at c) (stateCount file o) n (le-of-lt l) before (λ k. fails)
+    breaks-at = first-is (holds-at c) (stateCount file o) n (le-of-lt (b .state)) (b .held) (λ k. b .fails)
 
     not-true : isTrue file o c ≡ false
     unfolding isTrue
-    not-true = rw breaks-at (lt-leb (stateCount file o) n l)
+    not-true = rw breaks-at (lt-leb (stateCount file o) n (b .state))
+
+  pub breaks-first : (c : Condition) → isTrue file o c ≡ false → Breaks c (breakingOf file o c)
+  unfolding isTrue breakingOf
+  breaks-first c f =
+      let l = leb-false _ _ f in
+      let s = stateCount file o in
+      record { state = l; held = λ k m. first-passes (holds-at c) s k m; fails = first-fails (holds-at c) s l }
 
   -- ---- the verdict
   pub judged-whole : ((k : ℕ) → k < totalOf file o → isTrue file o (conditionAt file o k) ≡ true)
@@ -59,70 +76,48 @@ module _ (file : List ℕ) (o : Outline) where
       rw (first-is true-of t t (le-refl t) h (λ l. absurd (lt-irrefl t l)), le-ltb t t (le-refl t))
 
   pub judged-broken : (k : ℕ) → k < totalOf file o → ((j : ℕ) → j < k → isTrue file o (conditionAt file o j) ≡ true)
-      → (n : ℕ) → n < stateCount file o → ((j : ℕ) → j < n → conditionHolds file o (conditionAt file o k) (stateAt file o j) ≡ true)
-      → conditionHolds file o (conditionAt file o k) (stateAt file o n) ≡ false
+      → (n : ℕ) → Breaks (conditionAt file o k) n
       → judgedOf file o ≡ namedOf (conditionAt file o k) k (stateAt file o n) (k * stateCount file o + n + 1)
   unfolding judgedOf testsOf brokenAt brokenOf
-  judged-broken k l before n s held fails =
+  judged-broken k l before n b =
       let c = conditionAt file o k in
       let t = totalOf file o in
-      rw (first-is true-of t k (le-of-lt l) before (λ j. not-true c n s held fails), lt-ltb k t l, breaks-at c n s held fails)
+      rw (first-is true-of t k (le-of-lt l) before (λ j. not-true c b), lt-ltb k t l, breaks-at c b)
 
-  -- the search is left at condition k, the first that is not true, and at state n, the first that breaks it
-  pub record Breaks (k n : ℕ) : Type 0 where
-    pub condition : k < totalOf file o
-    pub state : n < stateCount file o
-    pub before : (j : ℕ) → j < k → (i : ℕ) → i < stateCount file o → conditionHolds file o (conditionAt file o j) (stateAt file o i) ≡ true
-    pub held : (i : ℕ) → i < n → conditionHolds file o (conditionAt file o k) (stateAt file o i) ≡ true
-    pub fails : conditionHolds file o (conditionAt file o k) (stateAt file o n) ≡ false
+  -- condition k is the first that is not true, state n the first that breaks it
+  pub record Broken (v : Verdict) : Type 0 where
+    pub k : ℕ
+    pub n : ℕ
+    pub below : k < totalOf file o
+    pub before : (j : ℕ) → j < k → isTrue file o (conditionAt file o j) ≡ true
+    pub breaks : Breaks (conditionAt file o k) n
+    pub is : v ≡ namedOf (conditionAt file o k) k (stateAt file o n) (k * stateCount file o + n + 1)
 
-  abbrev pub Broken : Verdict → Type 0
-  Broken v =
-      (k : ℕ) × (n : ℕ) × Breaks k n × (v ≡ namedOf (conditionAt file o k) k (stateAt file o n) (k * stateCount file o + n + 1))
-
-  abbrev pub Whole : Verdict → Type 0
-  Whole v =
-      ((k : ℕ) → k < totalOf file o → (n : ℕ) → n < stateCount file o → conditionHolds file o (conditionAt file o k) (stateAt file o n) ≡ true)
-      × (v ≡ unnamedOf 0 (totalOf file o) (totalOf file o * stateCount file o))
+  pub record Whole (v : Verdict) : Type 0 where
+    pub all : (k : ℕ) → k < totalOf file o → isTrue file o (conditionAt file o k) ≡ true
+    pub is : v ≡ unnamedOf 0 (totalOf file o) (totalOf file o * stateCount file o)
 
   pub judged-cases : Broken (judgedOf file o) ⊎ Whole (judgedOf file o)
-  unfolding brokenOf breakingOf isTrue
-  judged-cases = go (ltb k t) refl
+  unfolding brokenOf
+  judged-cases = go (ltb first total) refl
     where
-      k : ℕ
-      k = brokenOf file o
+      total : ℕ
+      total = totalOf file o
 
-      t : ℕ
-      t = totalOf file o
+      first : ℕ
+      first = brokenOf file o
 
-      n : ℕ
-      n = breakingOf file o (conditionAt file o k)
+      before : (j : ℕ) → j < first → isTrue file o (conditionAt file o j) ≡ true
+      before j l = first-passes true-of total j l
 
-      before : (j : ℕ) → j < k → (i : ℕ) → i < stateCount file o → conditionHolds file o (conditionAt file o j) (stateAt file o i) ≡ true
-      before j l i m = first-passes (holds-at (conditionAt file o j)) (stateCount file o) i (lt-of-lt-of-le m (leb-true _ _ (first-passes true-of t j l)))
-
-      go : (b : Bool) → ltb k t ≡ b → Broken (judgedOf file o) ⊎ Whole (judgedOf file o)
+      go : (b : Bool) → ltb first total ≡ b → Broken (judgedOf file o) ⊎ Whole (judgedOf file o)
       go true e =
           let l = ltb-true _ _ e in
-          let s = leb-false (stateCount file o) n (first-fails true-of t l) in
-          let breaks : Breaks k n =
-          record {
-            condition = l;
-            state = s;
-            before = before;
-            held = λ i m. first-passes (holds-at (conditionAt file o k)) (stateCount file o) i m;
-            fails = first-fails (holds-at (conditionAt file o k)) (stateCount file o) s;
-          } in
-          inl (
-            k,
-            n,
-            breaks,
-            judged-broken k l (λ j m. first-passes true-of t j m) n s (breaks .held) (breaks .fails),
-          )
+          let b = breaks-first (conditionAt file o first) (first-fails true-of total l) in
+          inl (record { k = first; n = _; below = l; before = before; breaks = b; is = judged-broken first l before _ b })
       go false e =
-          let all = ltb-false _ _ e in
-          inr
-          (λ j l. before j (lt-of-lt-of-le l all), judged-whole (λ j l. first-passes true-of t j (lt-of-lt-of-le l all)))
+          let all : (k : ℕ) → k < total → isTrue file o (conditionAt file o k) ≡ true = λ k l. before k (lt-of-lt-of-le l (ltb-false _ _ e)) in
+          inr (record { all = all; is = judged-whole all })
 
 module _ (file : List ℕ) (o : Outline) (r : readOf file ≡ Reading.Readable o) where
   pub state-numbered : (n : ℕ) → n < stateCount file o → State file (o .vars) (stateAt file o n) × (stateNumber file o (stateAt file o n) ≡ n)

@@ -34,7 +34,7 @@ use Rattle.testing.specs.declared.Test.{Test}
 use Rattle.verdicts.specs.declared.Single.{Single}
 use Rattle.conditions.proofs.Laws.Condition.{Parts, condition-listed, listed-parts, total-most}
 use Rattle.testing.proofs.Laws.Testing.{prepared, test-fits}
-use Rattle.verdicts.proofs.Laws.Verdict.{true-at, judged-broken, judged-whole}
+use Rattle.verdicts.proofs.Laws.Verdict.{true-at, Breaks, judged-broken, judged-whole}
 
 pub count-is : (file : List ℕ) (o : Outline) {low high : List ℤ} {states : ℕ} → low ≡ lowsOf file (o .vars) → high ≡ highsOf file (o .vars)
     → states ≡ countOf low high → states ≡ stateCount file o
@@ -126,11 +126,8 @@ module _ (file : List ℕ) (o : Outline) where
     pub held : (k : ℕ) → k < n → test (stateAt file o k) ≡ true
 
   -- the search was left at state n, the first that breaks the condition
-  pub record Broke (number : ℕ) (state : List ℤ) (n : ℕ) : Type 0 where
-    pub below : n < stateCount file o
-    pub is : state ≡ stateAt file o n
-    pub held : (k : ℕ) → k < n → conditionHolds file o (conditionAt file o number) (stateAt file o k) ≡ true
-    pub breaks : conditionHolds file o (conditionAt file o number) (stateAt file o n) ≡ false
+  abbrev pub Broke : ℕ → List ℤ → ℕ → Type 0
+  Broke number state n = (state ≡ stateAt file o n) × Breaks file o (conditionAt file o number) n
 
 -- ---- one state after the other
 module _ (file : List ℕ) (o : Outline) {low high : List ℤ} {states : ℕ} (r : readOf file ≡ Reading.Readable o)
@@ -185,8 +182,8 @@ module _ {file : List ℕ} {o : Outline} {low high : List ℤ} {states : ℕ} {n
   pub tests-small : {number : ℕ} → number ≤ total → number * states ≤ 2182086656
   tests-small l = mul-le-mul (le-trans l total-small) states-small
 
-  pub broke-small : {number n : ℕ} {state : List ℤ} → Broke file o number state n → n ≤ 1048576
-  broke-small b = omega (arith, b .below, states-all, states-small)
+  pub broke-small : {c : Condition} {n : ℕ} → Breaks file o c n → n ≤ 1048576
+  broke-small b = omega (arith, b .state, states-all, states-small)
 
   -- ---- the state of a number
   pub state-asks : {n : ℕ} → n < states → Ranges low high × (n < countOf low high)
@@ -254,12 +251,8 @@ module _ {file : List ℕ} {o : Outline} {low high : List ℤ} {states : ℕ} {n
         pub passed-broke : passesOf low high file test state ≡ false → Broke file o number state n
         passed-broke f =
             let m : n < stateCount file o = rw (← states-all) l in
-            record {
-              below = m;
-              is = p .here m;
-              held = p .held;
-              breaks = pass-here file o (h .readable) (h .low-is) (h .high-is) states-all l p (sym (passes-is state) ∙ f);
-            }
+            let fails = pass-here file o (h .readable) (h .low-is) (h .high-is) states-all l p (sym (passes-is state) ∙ f) in
+            (p .here m, record { state = m; held = p .held; fails = fails })
 
   -- ---- the conditions
   module _ {number : ℕ} (s : Searched file o number) where
@@ -272,10 +265,8 @@ module _ {file : List ℕ} {o : Outline} {low high : List ℤ} {states : ℕ} {n
         }
 
     pub searched-broke : number < total → {c : Condition} → c ≡ conditionAt file o number → {state : List ℤ} {n : ℕ} → Broke file o number state n
-        → namedOf c number state (number * states + n + 1) ≡ judgedOf file o
-    searched-broke l is {state} {n} b =
-        rw (is, b .is, states-all)
-        (sym (judged-broken file o number (rw (← h .total-is) l) (s .held) n (b .below) (b .held) (b .breaks)))
+        → {tests : ℕ} → tests ≡ number * states + n + 1 → namedOf c number state tests ≡ judgedOf file o
+    searched-broke l is {n = n} b e = rw (is, b .0, e, states-all) (sym (judged-broken file o number (rw (← h .total-is) l) (s .held) n (b .1)))
 
-    pub searched-end : total ≤ number → unnamedOf 0 total (total * states) ≡ judgedOf file o
-    searched-end l = rw (h .total-is, states-all) (sym (judged-whole file o (λ k j. s .held k (omega (arith, j, l, h .total-is)))))
+    pub searched-end : total ≤ number → {tests : ℕ} → tests ≡ total * states → unnamedOf 0 total tests ≡ judgedOf file o
+    searched-end l e = rw (e, h .total-is, states-all) (sym (judged-whole file o (λ k j. s .held k (omega (arith, j, l, h .total-is)))))

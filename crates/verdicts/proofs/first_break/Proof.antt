@@ -61,7 +61,7 @@ tests-fit : (c : tie.Left-conditions Inv-states μ-states Inv-conditions μ-cond
     → c .before .conditions .number < start (c .before .before) .args .total
     → c .before .conditions .number * start (c .before .before) .args .states + c .conditions-test .n + 1 ≤ 2183135233
 tests-fit c below =
-    omega (arith, tests-small (ready (c .before .before)) (le-of-lt below), broke-small (ready (c .before .before)) (broke c below))
+    omega (arith, tests-small (ready (c .before .before)) (le-of-lt below), broke-small (ready (c .before .before)) (broke c below .1))
 
 state-of-requires : tie.Need-state-of-requires Inv-states μ-states Inv-conditions μ-conditions
 state-of-requires c κs =
@@ -177,7 +177,7 @@ returns c =
     c .named .ensures
     ∙ searched-broke (ready (c .before .before .before .before .before .before)) (c .before .before .before .before .before .conditions .inv)
     (c .before .before .before .if5 .taken) (c .before .before .condition-at2 .ensures)
-    (broke (c .before .before .before .before) (c .before .before .before .if5 .taken))
+    (broke (c .before .before .before .before) (c .before .before .before .if5 .taken)) (omega arith)
 
 cast-unnamed : tie.Need-cast-unnamed Inv-states μ-states Inv-conditions μ-conditions
 cast-unnamed c = record { fits = omega (arith, total-small (ready (c .before .before .before))) }
@@ -190,7 +190,7 @@ unnamed-requires c κs = search needs
 
 returns-2 : tie.Need-returns-2 Inv-states μ-states Inv-conditions μ-conditions
 returns-2 c = c .unnamed .ensures ∙ searched-end (ready (c .before .before .before .before)) (c .before .before .before .conditions .inv)
-    (c .before .if5 .left)
+    (c .before .if5 .left) (omega arith)
 
 pub first-break-spec : {M : Type 1} → statement M
 first-break-spec =

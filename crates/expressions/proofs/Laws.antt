@@ -3,3 +3,4 @@ pub mod Expression
 pub mod Sound
 pub mod Span
 pub mod Part
+pub mod Operand

@@ -11,7 +11,7 @@ ghost use Rattle.records.specs.Kind.{number as numberSort, truth as truthSort};
 ghost use Rattle.expressions.specs.Expression.{partAt, indicatorOf, compareOf, number, truth, holdsOf, Fits, Spans};
 
 // The part behind so many records.
-fn after(part: &[u8], records: usize) -> &[u8]
+pub fn after(part: &[u8], records: usize) -> &[u8]
     requires { ⌜ 8 * records ≤ length (now part) ⌝ }
     ensures { λ r. ⌜ now r ≡ partAt (now (part .entry)) records ⌝ }
 {
@@ -37,7 +37,7 @@ fn indicator(p: bool) -> i64
 }
 
 // The constant that begins the part.
-fn constant(part: &[u8]) -> i64
+pub fn constant(part: &[u8]) -> i64
     requires { ⌜ 8 ≤ length (now part) ⌝ }
     ensures { λ r. ⌜ r ≡ valueB (now (part .entry)) 0 ⌝ }
 {

@@ -43,7 +43,7 @@ fn leaf(file: &[u8], at: usize, form: Form) -> Interval
 }
 
 // Sum, difference or product of two intervals.
-fn combined(kind: u8, i: Interval, j: Interval) -> Interval
+pub fn combined(kind: u8, i: Interval, j: Interval) -> Interval
     requires left { ⌜ Bounded i ⌝ }
     requires right { ⌜ Bounded j ⌝ }
     ensures { λ r. ⌜ r ≡ overEnds (combine kind) i j ⌝ }

@@ -23,7 +23,7 @@ pub fn check(file: &[u8], report: &mut [u8]) -> Verdict
     if report.len() < 32 {
         return unnamed(1, 0, 0);
     }
-    let found = verdict(file);
+    let found = verdict(file, true);
     write_report(found, report);
     found
 }

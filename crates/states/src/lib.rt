@@ -4,8 +4,8 @@ use integers::radix::value_at;
 ghost use mathlib.Core.Path.{_≡_};
 ghost use Prim.Native.Nat.{_≤_, _<_};
 ghost use lib.Signed.{_≤ℤ_};
-ghost use Rattle.states.specs.State.{endsOf, lowsOf, highsOf, Ranges, Idle};
-ghost use Rattle.states.specs.Number.{sizeOf, countOf, stateOf, advanceOf};
+ghost use Rattle.states.specs.State.{endsOf, lowsOf, highsOf, Ranges, Within, Idle};
+ghost use Rattle.states.specs.Number.{sizeOf, countOf, stateOf, numberOf, advanceOf};
 
 // The low (field 2) or high (field 4) ends of the ranges of a file's variables.
 fn ends(file: &[u8], vars: usize, field: usize) -> [i16; 12]
@@ -79,6 +79,26 @@ pub fn state_of(low: [i16; 12], high: [i16; 12], number: usize) -> [i16; 12]
         rest /= n;
     }
     state
+}
+
+// The number of a state: each variable's offset counts for the states of the variables behind it.
+pub fn number_of(low: [i16; 12], high: [i16; 12], state: [i16; 12]) -> usize
+    requires within { ⌜ Within low high state ⌝ }
+    requires most { ⌜ countOf low high ≤ 1048576 ⌝ }
+    ensures { λ r. ⌜ r ≡ numberOf low high state ⌝ }
+{
+    let mut number: usize = 0;
+    let mut behind: usize = 1;
+    let mut i: usize = 12;
+    while 0 < i {
+        i -= 1;
+        let l = low[i];
+        let h = high[i];
+        let v = state[i];
+        number += offset_of(l, v) as usize * behind;
+        behind *= size(l, h);
+    }
+    number
 }
 
 // The next state: the last variable moves on, and one at its high end starts anew. The last state is followed by the first. Variables from `vars` on,

@@ -1,3 +1,4 @@
 pub mod Targets
 pub mod Marks
 pub mod Testing
+pub mod Boxes

@@ -26,6 +26,12 @@ use Rattle.conditions.specs.declared.Condition.the-variants.{Start, Entry, Cove
 use Rattle.testing.specs.declared.Conclusion.{Conclusion}
 use Rattle.testing.specs.declared.Targets.{Targets}
 use Rattle.testing.specs.declared.Test.{Test}
+use Rattle.boxes.specs.declared.Box.{Box}
+use Rattle.domains.specs.declared.seen.Seen.{Seen}
+use Rattle.domains.specs.declared.seen.Seen.the-variants.{No}
+use Rattle.domains.specs.Seen.{bothOf, eitherOf, impliesIn, impliedIn}
+use Rattle.enclosures.specs.Enclosure.{seenOf}
+use Rattle.successors.specs.Successor.{moveOf}
 
 -- ---- the targets of a condition
 -- the nodes that a step of transition t from node n may lead to: targets of its edges, and node n itself where it may keep it
@@ -68,10 +74,16 @@ testOf file o (Step n t) =
     (chosenOf (marksOf file o n t (not (isDouble file o n t))) (nodePlaces file o) (o .nodes))
 testOf file o (Enabling n t) = preparedOf (nodeAt file o n + 1) Conclusion.Enabled (transitionAt file o t) (targetsOf [])
 
+-- ---- what a test says, of a state and of a box
 -- one of the truths at the places listed holds
 unfoldable pub someHolds : List ℕ → List ℕ → List ℤ → Bool
 someHolds file [] state = false
 someHolds file (at ∷ places) state = holdsOf file at state || someHolds file places state
+
+-- what is seen of that
+unfoldable pub someIn : List ℕ → List ℕ → Box → Seen
+someIn file [] b = No
+someIn file (at ∷ places) b = eitherOf (seenOf file at b) (someIn file places b)
 
 abbrev pub targetsListed : Test → List ℕ
 targetsListed test = take (test .count) (test .targets)
@@ -85,8 +97,21 @@ concludesOf lows highs file test Conclusion.Reached state =
     implies (enabledOf lows highs file (test .transition) state) (someHolds file (targetsListed test) (successorOf file (test .transition) state))
 concludesOf lows highs file test Conclusion.Enabled state = enabledOf lows highs file (test .transition) state
 
+-- what is seen of that; the targets of a step are looked at in the box that it leads to
+unfoldable pub concludesIn : Box → List ℕ → Test → Conclusion → Box → Seen
+concludesIn ranges file test Conclusion.SomeTarget b = someIn file (targetsListed test) b
+concludesIn ranges file test Conclusion.ValuesInRange b = let m = moveOf ranges file (test .transition) b in impliesIn (m .guard) (m .range)
+concludesIn ranges file test Conclusion.Reached b =
+    let m = moveOf ranges file (test .transition) b in impliesIn (bothOf (m .guard) (m .range)) (someIn file (targetsListed test) (m .to))
+concludesIn ranges file test Conclusion.Enabled b = let m = moveOf ranges file (test .transition) b in bothOf (m .guard) (m .range)
+
+-- the premise implies it
 unfoldable pub passesOf : List ℤ → List ℤ → List ℕ → Test → List ℤ → Bool
 passesOf lows highs file test state = implies (holdsOf file (test .premise) state) (concludesOf lows highs file test (test .conclusion) state)
+
+-- what is seen of that; the conclusion is to blame first: a guard is short, and where it is false on half of the box that half is done
+unfoldable pub passesIn : Box → List ℕ → Test → Box → Seen
+passesIn ranges file test b = impliedIn (concludesIn ranges file test (test .conclusion) b) (seenOf file (test .premise) b)
 
 -- ---- what the code asks: what a test speaks of can be evaluated at every state
 abbrev pub TruthFits : List ℤ → List ℤ → List ℕ → ℕ → Type 0

@@ -1,8 +1,8 @@
-// The test of a condition at a state. A condition is prepared once: what does not depend on the state is looked up before its first test.
+// A condition prepared for its tests: what does not depend on the state is looked up once.
+pub mod tests;
+
 use conditions::Condition;
 use conditions::double_of;
-use evaluating::step;
-use expressions::holds;
 use parsing::Outline;
 use records::byte_at;
 use records::walk::Walked;
@@ -11,17 +11,13 @@ use records::word_at;
 ghost use mathlib.Core.Path.{_≡_};
 ghost use mathlib.Core.List.{[], _∷_};
 ghost use Prim.Native.Nat.{ℕ, _+_, _*_, _≤_, _<_};
-ghost use lib.ListN.{length, getD, take};
+ghost use lib.ListN.{length, getD};
 ghost use Rattle.reading.specs.declared.Reading.{Reading};
 ghost use Rattle.reading.specs.Read.{readOf};
-ghost use Rattle.records.specs.Kind.{truth as truthSort};
-ghost use Rattle.expressions.specs.Expression.{partAt, Fits, Spans};
-ghost use Rattle.states.specs.State.{Within};
 ghost use Rattle.conditions.specs.Edges.{carries};
 ghost use Rattle.testing.specs.Diagram.{claimedAt, qAt};
 ghost use Rattle.conditions.specs.Condition.{Listed};
 ghost use Rattle.testing.specs.Testing.{marksOf, targetsOf, chosenOf, nodePlaces, transitionPlaces, preparedOf, testOf};
-ghost use Rattle.testing.specs.Testing.{someHolds, concludesOf, passesOf, TestFits};
 
 // What a condition's premise must imply: that one of the targets is true; that a true guard goes with values in range; that a step leads to one of
 // the targets; that the transition is enabled.
@@ -197,85 +193,4 @@ pub fn test_of(
             prepared(nodes[n] + 1, Conclusion::Enabled, place, none())
         }
     }
-}
-
-// Whether a truth at one of the places holds.
-fn some_holds(
-    file: &[u8],
-    spans: &[u16; 4096],
-    places: [u16; 32],
-    count: usize,
-    state: [i16; 12],
-) -> bool
-    requires spans { ⌜ Spans (now file) (now spans) ⌝ }
-    requires most { ⌜ count ≤ 32 ⌝ }
-    requires fits { ⌜ ((i : ℕ) → i < count → Fits 16 truthSort (partAt (now file) (getD places i 0)) state) ⌝ }
-    ensures { λ r. ⌜ r ≡ someHolds (now (file .entry)) (take count places) state ⌝ }
-{
-    let mut i: usize = 0;
-    while i < count {
-        let at = places[i] as usize;
-        if holds(file, spans, at, state) {
-            return true;
-        }
-        i += 1;
-    }
-    false
-}
-
-// Whether what a condition's premise must imply is true at a state.
-pub fn concludes(
-    file: &[u8],
-    spans: &[u16; 4096],
-    low: [i16; 12],
-    high: [i16; 12],
-    test: Test,
-    state: [i16; 12],
-) -> bool
-    requires spans { ⌜ Spans (now file) (now spans) ⌝ }
-    requires within { ⌜ Within low high state ⌝ }
-    requires fits { ⌜ TestFits low high (now file) test ⌝ }
-    ensures { λ r. ⌜ r ≡ concludesOf low high (now (file .entry)) test (test .conclusion) state ⌝ }
-{
-    let targets = test.targets;
-    let conclusion = test.conclusion;
-    match conclusion {
-        Conclusion::SomeTarget => some_holds(file, spans, targets, test.count, state),
-        Conclusion::ValuesInRange => {
-            let s = step(file, spans, test.transition, low, high, state);
-            !s.guard | s.enabled
-        }
-        Conclusion::Reached => {
-            let s = step(file, spans, test.transition, low, high, state);
-            if !s.enabled {
-                return true;
-            }
-            let next = s.next;
-            some_holds(file, spans, targets, test.count, next)
-        }
-        Conclusion::Enabled => {
-            let s = step(file, spans, test.transition, low, high, state);
-            s.enabled
-        }
-    }
-}
-
-// Whether a condition holds at a state: its conclusion is looked at only where its premise is true.
-pub fn passes(
-    file: &[u8],
-    spans: &[u16; 4096],
-    low: [i16; 12],
-    high: [i16; 12],
-    test: Test,
-    state: [i16; 12],
-) -> bool
-    requires spans { ⌜ Spans (now file) (now spans) ⌝ }
-    requires within { ⌜ Within low high state ⌝ }
-    requires fits { ⌜ TestFits low high (now file) test ⌝ }
-    ensures { λ r. ⌜ r ≡ passesOf low high (now (file .entry)) test state ⌝ }
-{
-    if !holds(file, spans, test.premise, state) {
-        return true;
-    }
-    concludes(file, spans, low, high, test, state)
 }

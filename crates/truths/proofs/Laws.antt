@@ -2,5 +2,4 @@
 pub mod Truth
 pub mod Any
 pub mod First
-pub mod Every
 pub mod Answer

@@ -1,16 +1,11 @@
--- Tests of numbers in a row: whether one passes, whether all do, and the first that fails.
-use mathlib.Core.Bool.{Bool, true, false, cond, _&&_, _||_}
+-- Tests of numbers in a row: whether one passes, and the first that fails.
+use mathlib.Core.Bool.{Bool, false, cond, _||_}
 use Prim.Native.Nat.{ℕ, zero, suc, _+_}
 
 -- one of the n numbers from `at` on passes the test
 unfoldable pub any : (ℕ → Bool) → ℕ → ℕ → Bool
 any test zero at = false
 any test (suc n) at = test at || any test n (at + 1)
-
--- each of them does
-unfoldable pub every : (ℕ → Bool) → ℕ → ℕ → Bool
-every test zero at = true
-every test (suc n) at = test at && every test n (at + 1)
 
 -- the first of them that fails the test; `at + n` where none does
 unfoldable pub firstFailingFrom : (ℕ → Bool) → ℕ → ℕ → ℕ

@@ -1,11 +1,7 @@
 // The verdict on a file: the lowest broken condition with the lowest state that breaks it; and what a single test answers.
-pub mod acceptance;
-
-use crate::acceptance::conditions_in;
-use crate::acceptance::find;
+use boxes::Box;
 use conditions::Condition;
 use conditions::condition_at;
-use conditions::layout;
 use conditions::total;
 use expressions::holds;
 use expressions::spans::spans_of;
@@ -13,6 +9,10 @@ use parsing::Outline;
 use reading::Reading;
 use reading::read;
 use report::Verdict;
+use searching::Search;
+use searching::Skipped;
+use searching::budget::budget;
+use searching::skip;
 use sections::node_places;
 use sections::transition_places;
 use states::advance;
@@ -20,16 +20,17 @@ use states::count;
 use states::highs;
 use states::lows;
 use states::state_of;
-use testing::concludes;
-use testing::passes;
 use testing::test_of;
+use testing::tests::concludes;
+use testing::tests::passes;
 ghost use mathlib.Core.Path.{_≡_};
 ghost use Prim.Native.Nat.{_≤_};
 ghost use Rattle.reading.specs.declared.Reading.{Reading};
 ghost use Rattle.reading.specs.Read.{readOf};
-ghost use Rattle.conditions.specs.Condition.{totalOf, nodeNumber, transitionNumber};
-ghost use Rattle.verdicts.specs.Verdict.{stateCount, unnamedOf, namedOf, judgedOf, verdictBy, singleJudged, singleOf};
-ghost use Rattle.verdicts.specs.Acceptance.{LookedUp, Begun};
+ghost use Rattle.conditions.specs.Condition.{nodeNumber, transitionNumber};
+ghost use Rattle.expressions.specs.Expression.{Spans};
+ghost use Rattle.verdicts.specs.Verdict.{unnamedOf, namedOf, judgedOf, verdictBy, singleJudged, singleOf};
+ghost use Rattle.verdicts.specs.Model.{modelOf};
 
 // What a single test answers: the refusal that meets it, with its number and its place; or whether the condition holds at the state.
 pub enum Single {
@@ -109,42 +110,77 @@ fn named(condition: Condition, number: u32, state: [i16; 12], tests: u64) -> Ver
     }
 }
 
+// What is looked up once for a file, before its conditions are tested: the ends of the variables' ranges, how many states there are, where the nodes
+// and the transitions stand, and how many conditions there are.
+pub struct Model {
+    pub low: [i16; 12],
+    pub high: [i16; 12],
+    pub states: usize,
+    pub nodes: [usize; 32],
+    pub transitions: [usize; 32],
+    pub total: usize,
+}
+
+fn model_of(file: &[u8], outline: Outline) -> Model
+    requires { ⌜ readOf (now file) ≡ Reading.Readable outline ⌝ }
+    ensures { λ r. ⌜ r ≡ modelOf (now (file .entry)) outline ⌝ }
+{
+    let low = lows(file, outline.vars);
+    let high = highs(file, outline.vars);
+    let states = count(low, high);
+    let nodes = node_places(file, outline.vars, outline.nodes, outline.node);
+    let transitions = transition_places(
+        file,
+        outline.vars,
+        outline.transitions,
+        outline.transition,
+    );
+    Model {
+        low,
+        high,
+        states,
+        nodes,
+        transitions,
+        total: total(file, outline),
+    }
+}
+
 // The verdict on a readable file, by one condition after the other up to the first break. Each is prepared once, then tested at one state after the
-// other. The conditions before number `sure` are true, and those before `end` hold in the first `from` states: these tests are left out.
+// other. By boxes, whole boxes of states are asked on the way which states may be skipped: after one state by 64 of them at most, after 64 states by 64
+// times as many, and so on up to what is fair. So a break at one of the first states costs little, and so does a condition that boxes don't decide.
 fn first_break(
     file: &[u8],
     outline: Outline,
     spans: &[u16; 4096],
-    low: [i16; 12],
-    high: [i16; 12],
-    states: usize,
-    nodes: [usize; 32],
-    transitions: [usize; 32],
-    total: usize,
-    sure: usize,
-    end: usize,
-    from: usize,
+    model: Model,
+    by_boxes: bool,
 ) -> Verdict
-    requires known { ⌜ LookedUp (now file) outline (now spans) low high nodes transitions ⌝ }
-    requires states { ⌜ states ≡ stateCount (now file) outline ⌝ }
-    requires total { ⌜ total ≡ totalOf (now file) outline ⌝ }
-    requires begun { ⌜ Begun (now file) outline sure end from ⌝ }
+    requires readable { ⌜ readOf (now file) ≡ Reading.Readable outline ⌝ }
+    requires spans { ⌜ Spans (now file) (now spans) ⌝ }
+    requires model { ⌜ model ≡ modelOf (now file) outline ⌝ }
     ensures { λ r. ⌜ r ≡ judgedOf (now (file .entry)) outline ⌝ }
 {
-    let start = state_of(low, high, from);
-    let mut number = sure;
+    let low = model.low;
+    let high = model.high;
+    let nodes = model.nodes;
+    let transitions = model.transitions;
+    let states = model.states;
+    let total = model.total;
+    let ranges = Box { low, high };
+    let mut number: usize = 0;
     let mut state = low;
     let mut n: usize = 0;
     'conditions: while number < total {
         let condition = condition_at(file, outline, number);
         let test = test_of(file, outline, nodes, transitions, condition);
         let premise = test.premise;
+        let search = Search { ranges, test };
+        let mut ask: usize = 1;
+        if !by_boxes {
+            ask = states + 1;
+        }
         state = low;
         n = 0;
-        if number < end {
-            state = start;
-            n = from;
-        }
         'states: while n < states {
             // Worked out before the test, which then needn't wait for it.
             let next = advance(low, high, outline.vars, state);
@@ -155,6 +191,17 @@ fn first_break(
             }
             state = next;
             n += 1;
+            if ask <= n {
+                ask *= 64;
+                let boxes = budget(spans, test, states, ask);
+                if boxes < ask {
+                    ask = states + 1;
+                }
+                let from = Skipped { state, number: n };
+                let found = skip(file, spans, search, states, from, boxes);
+                state = found.state;
+                n = found.number;
+            }
         }
         if n < states {
             break 'conditions;
@@ -173,61 +220,22 @@ fn first_break(
     unnamed(0, total as u32, (total * states) as u64)
 }
 
-// The verdict on a readable file. One pass over the states finds the conditions that are true, all of them if the file is accepted; the search for the
-// first break goes on from there.
-fn judge(file: &[u8], outline: Outline) -> Verdict
+// The verdict on a readable file.
+fn judge(file: &[u8], outline: Outline, by_boxes: bool) -> Verdict
     requires { ⌜ readOf (now file) ≡ Reading.Readable outline ⌝ }
     ensures { λ r. ⌜ r ≡ judgedOf (now (file .entry)) outline ⌝ }
 {
     let spans = spans_of(file);
-    let low = lows(file, outline.vars);
-    let high = highs(file, outline.vars);
-    let states = count(low, high);
-    let nodes = node_places(file, outline.vars, outline.nodes, outline.node);
-    let transitions = transition_places(
-        file,
-        outline.vars,
-        outline.transitions,
-        outline.transition,
-    );
-    let total = total(file, outline);
-    let blocks = layout(file, outline);
-    let found = find(
-        file,
-        outline,
-        &spans,
-        low,
-        high,
-        states,
-        &nodes,
-        &transitions,
-        blocks,
-    );
-    let sure = conditions_in(blocks, found.blocks);
-    let end = conditions_in(blocks, found.blocks + 1);
-    first_break(
-        file,
-        outline,
-        &spans,
-        low,
-        high,
-        states,
-        nodes,
-        transitions,
-        total,
-        sure,
-        end,
-        found.states,
-    )
+    first_break(file, outline, &spans, model_of(file, outline), by_boxes)
 }
 
-// The verdict on a file.
-pub fn verdict(file: &[u8]) -> Verdict
+// The verdict on a file, the same with boxes and by the loops alone.
+pub fn verdict(file: &[u8], by_boxes: bool) -> Verdict
     ensures { λ r. ⌜ r ≡ verdictBy (now (file .entry)) (readOf (now (file .entry))) ⌝ }
 {
     let found = read(file);
     match found {
-        Reading::Readable(outline) => judge(file, outline),
+        Reading::Readable(outline) => judge(file, outline, by_boxes),
         Reading::Refused(number, place) => unnamed(number, place as u32, 0),
     }
 }
@@ -237,21 +245,17 @@ fn tested(file: &[u8], outline: Outline, condition: usize, state: usize) -> Sing
     requires { ⌜ readOf (now file) ≡ Reading.Readable outline ⌝ }
     ensures { λ r. ⌜ r ≡ singleJudged (now (file .entry)) outline condition state ⌝ }
 {
-    if total(file, outline) <= condition {
+    let model = model_of(file, outline);
+    if model.total <= condition {
         return Single::Refused(11, 0);
     }
-    let low = lows(file, outline.vars);
-    let high = highs(file, outline.vars);
-    if count(low, high) <= state {
+    if model.states <= state {
         return Single::Refused(12, 0);
     }
-    let nodes = node_places(file, outline.vars, outline.nodes, outline.node);
-    let transitions = transition_places(
-        file,
-        outline.vars,
-        outline.transitions,
-        outline.transition,
-    );
+    let low = model.low;
+    let high = model.high;
+    let nodes = model.nodes;
+    let transitions = model.transitions;
     let condition = condition_at(file, outline, condition);
     let test = test_of(file, outline, nodes, transitions, condition);
     let s = state_of(low, high, state);

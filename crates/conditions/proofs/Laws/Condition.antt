@@ -6,7 +6,6 @@
 --     total-is, total-most        how many conditions there are, by the layout; at most 2,081
 --     total-invariance, total-wait-for, total-chain          how many, by diagram
 --     condition-opening, condition-cover, condition-move     the condition of a number, by the layout
---     condition-node              behind the covers it is one of the conditions of the node found by a quotient
 --     condition-listed, listed-number     a number below the total has a condition of the list, and a condition of the list has such a number
 --     listed-parts, cover-parts   what a listed condition, and the cover of a node covered, speaks of is there
 --     refusal-above               a broken condition's number of refusal is 13 or more
@@ -359,19 +358,6 @@ module _ (file : List ℕ) (o : Outline) (r : readOf file ≡ Reading.Readable o
           let q =
           blocks-below (openingOf file o) (layout .covers) (ofNode file o) (o .nodes - layout .from) (layout .from) (layout .size) sizes k l below in
           omega arith
-
-  pub condition-node : (k : ℕ) → layout .covers < k → k < totalOf file o → List·Memᴰ (conditionAt file o k) (ofNode file o (nodeBy layout k))
-  unfolding conditionAt
-  condition-node k l m =
-      let below = rw total-is at m in
-      let some = condition-move k l m .some in
-      let node = condition-move k l m .node in
-      rw (
-        conditions-laid,
-        blocks-move (openingOf file o) (layout .covers) (ofNode file o) (o .nodes - layout .from) (layout .from) (layout .size) sizes k l below,
-      )
-      (at-in (ofNode file o (nodeBy layout k)) (positionBy layout k) Start
-      (rw (node-size (nodeBy layout k) (omega arith) node) (mod-lt (k - 1 - layout .covers) some)))
 
   -- ---- bounds and totals
   pub layout-bounds : Bounds file o layout

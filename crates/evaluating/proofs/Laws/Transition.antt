@@ -1,20 +1,24 @@
 -- Laws of what a transition does.
 --     in-range-ends                               a value in range lies between the range's ends
+--     fits-more                                   an assignment of a transition that fits, and those behind it
 --     assigned-within                             values in range make a state of a state
 --     assigned-value, assigned-rest               "has those values, the rest unchanged", where no variable is assigned twice
 -- Assumes nothing.
 use mathlib.Core.Path.{_≡_, refl, sym, subst, _∙_}
 use mathlib.Core.List.{List, [], _∷_, map}
 use mathlib.Core.Bool.{true, and-eq-true-iff}
-use Prim.Native.Nat.{ℕ, _<_}
+use Prim.Native.Nat.{ℕ, suc, _+_, _<_}
 use lib.IntN.{ℤ, pos}
 use lib.ListN.{length, getD, set, length-set}
 use lib.Seq.{getD-set-same, getD-set-other}
 use lib.Signed.{leZ, _≤ℤ_}
 use Rattle.integers.proofs.Laws.Parts.{ints}
+use Rattle.records.specs.Record.{fieldA, kindIs}
+use Rattle.records.specs.Kind.{number as numberSort}
+use Rattle.expressions.specs.Expression.{partAt, behind, Fits}
 use Rattle.evaluating.specs.declared.Assignment.{Assignment}
 use Rattle.states.specs.State.{Within}
-use Rattle.evaluating.specs.Transition.{inRangeOf, allInRange, assigned}
+use Rattle.evaluating.specs.Transition.{inRangeOf, allInRange, assigned, AssignmentsFit}
 use Rattle.states.proofs.Laws.State.{within-set}
 
 module _ (lows highs : List ℤ) where
@@ -30,6 +34,11 @@ module _ (lows highs : List ℤ) where
       let b = and-eq-true-iff (inRangeOf lows highs (a .variable) (a .value)) (allInRange lows highs rest) .0 e in
       let r = in-range-ends (a .variable) (a .value) (b .0) in
       assigned-within rest (set state (a .variable) (a .value)) (within-set w (a .variable) (r .0) (r .1)) (b .1)
+
+pub fits-more : (file : List ℕ) (at : ℕ) (state : List ℤ) {left n : ℕ} → left ≡ suc n → kindIs file 0x04 at ≡ true → AssignmentsFit file left at state
+    → (fieldA file at < 12) × Fits 16 numberSort (partAt file (at + 1)) state × AssignmentsFit file n (behind file (at + 1)) state
+unfolding AssignmentsFit
+fits-more file at state is e h = (rw is at h) e
 
 -- ---- "has those values, the rest unchanged"
 -- the variables that are assigned, in order

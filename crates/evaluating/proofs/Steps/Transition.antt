@@ -5,15 +5,14 @@ use mathlib.Core.Bool.{true, false}
 use Prim.Native.Nat.{ℕ, zero, suc, _+_, _/_, _<_}
 use lib.IntN.{ℤ}
 use lib.ListN.{length, set}
-use Rattle.expressions.specs.Expression.{partAt, Fits}
-use Rattle.records.specs.Record.{fieldA, kindIs}
-use Rattle.records.specs.Kind.{number as numberSort}
+use Rattle.records.specs.Record.{kindIs}
 use Rattle.evaluating.specs.declared.Assignment.{Assignment}
 use Rattle.evaluating.specs.declared.Assigned.{Assigned}
 use Rattle.evaluating.specs.declared.Stepped.{Stepped}
 use Rattle.expressions.specs.Expression.{behind}
 use Rattle.evaluating.specs.Transition.{assignmentAt, assignmentsFrom, inRangeOf, allInRange, assigned, guardOf, assignmentList, enabledOf}
 use Rattle.evaluating.specs.Transition.{successorOf, assignOf, stepOf, AssignmentsFit}
+use Rattle.evaluating.proofs.Laws.Transition.{fits-more}
 
 -- ---- the assignments from a record on
 module _ (file : List ℕ) (at : ℕ) (state : List ℤ) where
@@ -26,11 +25,6 @@ module _ (file : List ℕ) (at : ℕ) (state : List ℤ) where
     list-more : assignmentsFrom file left at state ≡ assignmentAt file at state ∷ assignmentsFrom file n (behind file (at + 1)) state
     unfolding assignmentsFrom
     list-more = rw (is, e)
-
-    pub fits-more : AssignmentsFit file left at state
-        → (fieldA file at < 12) × Fits 16 numberSort (partAt file (at + 1)) state × AssignmentsFit file n (behind file (at + 1)) state
-    unfolding AssignmentsFit
-    fits-more h = (rw is at h) e
 
 -- ---- in the loop: what is left to do to `next` gives what all the assignments do to `state`
 module _ (lows highs : List ℤ) (file : List ℕ) (state : List ℤ) (all : List Assignment) where

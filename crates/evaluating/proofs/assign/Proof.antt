@@ -11,7 +11,8 @@ use mir.Syntax.{w64}
 use Rattle.integers.proofs.Laws.Parts.{back}
 use Rattle.records.specs.Record.{kindIs}
 use Rattle.evaluating.specs.Transition.{assignmentsFrom}
-use Rattle.evaluating.proofs.Steps.Transition.{fits-more, Left, left-begins, left-none, left-end, left-variable, left-out, left-more}
+use Rattle.evaluating.proofs.Laws.Transition.{fits-more}
+use Rattle.evaluating.proofs.Steps.Transition.{Left, left-begins, left-none, left-end, left-variable, left-out, left-more}
 use Rattle.evaluating.proofs.assign.Statement.{statement}
 use Rattle.evaluating.proofs.assign.Tie as tie
 

@@ -16,8 +16,8 @@ use Rattle.records.specs.Kind.{number as numberSort, truth as truthSort}
 use Rattle.intervals.specs.Interval.{combine}
 use Rattle.expressions.specs.Expression.{connectOf}
 use Rattle.expressions.proofs.Laws.Expression.{fits-record}
-use Rattle.expressions.proofs.Steps.Expression.{number-kinds, truth-kinds, Two, there, level, one, two, left-small, right-small}
-use Rattle.expressions.proofs.Steps.Expression.{constant-is, variable-is, arithmetic-is, indicator-is}
+use Rattle.expressions.proofs.Laws.Operand.{number-kinds, truth-kinds, Two, there, level, one, two}
+use Rattle.expressions.proofs.Steps.Expression.{left-small, right-small, constant-is, variable-is, arithmetic-is, indicator-is}
 use Rattle.expressions.proofs.Steps.Expression.{literal-is, negation-is, connective-is, decided-is, comparison-is}
 use borrow.Fn.Kinds.{In}
 use borrow.Fn.PlainCycle.{Measures, is, falls, and}

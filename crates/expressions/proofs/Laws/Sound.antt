@@ -1,6 +1,7 @@
 -- Intervals are sound: in a state whose values lie in the ranges, an expression of a readable file fits, and a number lies in its interval.
 --     expression-fits     it fits: its records are there, their kinds fit, and every number is small
 --     number-in           a number lies in its interval
+--     combine-in, indicator-in, constant-in     sums, differences, products, indicators and constants lie in theirs
 -- Assumes nothing.
 use mathlib.Core.Path.{_≡_, refl, sym, ap, subst, _∙_}
 use mathlib.Core.List.{List}
@@ -63,20 +64,20 @@ module _ (file : List ℕ) (at : ℕ) where
   part-length l = omega (arith, length-drop (8 * at) file)
 
 -- ---- the three operations, the indicator and the constant
-combine-in : (kind : ℕ) {x y : ℤ} {i j : Interval} → In x i → In y j → In (combine kind x y) (overEnds (combine kind) i j)
+pub combine-in : (kind : ℕ) {x y : ℤ} {i j : Interval} → In x i → In y j → In (combine kind x y) (overEnds (combine kind) i j)
 unfolding combine
 combine-in kind {x} {y} {i} {j} h k =
     let last = cond (eqb kind 0x13) _-ℤ_ _*ℤ_ in
     by-test (eqb kind 0x12) (λ t. In (cond t _+ℤ_ last x y) (overEnds (cond t _+ℤ_ last) i j)) (λ e. sum-in h k)
     (λ e. by-test (eqb kind 0x13) (λ t. In (cond t _-ℤ_ _*ℤ_ x y) (overEnds (cond t _-ℤ_ _*ℤ_) i j)) (λ e. difference-in h k) (λ e. product-in h k))
 
-indicator-in : (p : Bool) → In (indicatorOf p) unit
+pub indicator-in : (p : Bool) → In (indicatorOf p) unit
 unfolding indicatorOf
 indicator-in p =
     by-test p (λ t. In (cond t (pos 1) (pos 0)) unit) (λ e. record { above = omega ints; below = omega ints })
     (λ e. record { above = omega ints; below = omega ints })
 
-constant-in : (x : ℤ) → In x (interval x x)
+pub constant-in : (x : ℤ) → In x (interval x x)
 constant-in x = record { above = ≤ℤ-refl x; below = ≤ℤ-refl x }
 
 -- ---- the values of the file's variables lie in their ranges

@@ -1,8 +1,8 @@
 -- A digit of a mixed radix: value and offset determine each other within a range. Assumes nothing.
 use mathlib.Core.Path.{_≡_}
-use Prim.Native.Nat.{ℕ, _≤_, _<_}
+use Prim.Native.Nat.{ℕ, _+_, _≤_, _<_}
 use lib.IntN.{ℤ, pos, natAbs, _+ℤ_, _-ℤ_}
-use lib.Signed.{_≤ℤ_}
+use lib.Signed.{_≤ℤ_, _<ℤ_}
 use mir.Syntax.{w16}
 use mir.Val.{SFits}
 use Rattle.integers.specs.Radix.{at, offsetOf}
@@ -37,3 +37,20 @@ module _ (low : ℤ) where
   pub offset-small : (v : ℤ) → SFits w16 low → SFits w16 v → offsetOf low v < 65536
   unfolding offsetOf
   offset-small v f g = let z = v -ℤ low in omega (ints, sub-parts v low, abs-parts z, one-part z, one-part low, one-part v)
+
+  -- a greater value is further from the low end
+  pub offset-less : (v high : ℤ) → low ≤ℤ v → v <ℤ high → offsetOf low v < offsetOf low high
+  unfolding offsetOf
+  offset-less v high h k =
+      let y = v -ℤ low in
+      let z = high -ℤ low in
+      omega (ints, sub-parts v low, sub-parts high low, abs-parts y, one-part y, abs-parts z, one-part z)
+
+  -- no value lies between two neighbours
+  pub below-next : (v : ℤ) (k : ℕ) → v <ℤ at low (k + 1) → v ≤ℤ at low k
+  unfolding at
+  below-next v k h = omega (ints, add-parts low (pos k), add-parts low (pos (k + 1)))
+
+  pub above-next : (v : ℤ) (k : ℕ) → at low k <ℤ v → at low (k + 1) ≤ℤ v
+  unfolding at
+  above-next v k h = omega (ints, add-parts low (pos k), add-parts low (pos (k + 1)))

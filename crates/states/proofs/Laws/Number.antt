@@ -4,7 +4,7 @@
 --     number-below, state-within         a state has a number below the count, and such a number a state
 --     state-of-number, number-of-state   each determines the other
 --     number-unique                      no two states have one number
---     first-state                        number 0 is the state of the low ends
+--     first-number, first-state          number 0 is the state of the low ends
 --     advance-within                     the move forward leads to a state
 --     advance-number, advance-next       from any state but the last, to the one numbered one higher
 --     advance-last                       and from the last to the first
@@ -96,7 +96,7 @@ module _ (low : ℤ) where
       let e : at low (o + 1) ≡ v +ℤ pos 1 = omega (ints, add-parts low (pos (o + 1)), add-parts low (pos o), add-parts v (pos 1), at-offset low v p) in
       rw e at (offset-at low (o + 1))
 
-first-number : {lows highs : List ℤ} → Ranges lows highs → numberOf lows highs lows ≡ 0
+pub first-number : {lows highs : List ℤ} → Ranges lows highs → numberOf lows highs lows ≡ 0
 unfolding numberOf
 first-number no-ranges = refl
 first-number (more-ranges {low} p r) = rw (offset-self low, first-number r, zero-mul)

@@ -4,7 +4,7 @@ use mathlib.Core.Path.{_≡_, refl, sym, ap, _∙_}
 use mathlib.Core.Bool.{true, false, cond, _&&_, and-false}
 use mathlib.Core.List.{List, [], _∷_, _++_, append-nil}
 use Prim.Native.Nat.{ℕ, zero, suc, _+_, _*_, _-_, _/_, _%_, _<_, _≤_}
-use native.Mathlib.Nat.{mul-comm, div-div-eq-div-mul, div-one, mod-lt, mod-eq-of-lt, le-refl, le-trans, add-mul, one-mul}
+use native.Mathlib.Nat.{add-comm, mul-comm, div-div-eq-div-mul, div-one, mod-lt, mod-eq-of-lt, le-refl, le-trans, lt-of-lt-of-le, add-mul, one-mul}
 use native.Mathlib.Numerals.{sub-one}
 use native.Mathlib.Omega.{arith}
 use lib.Arith.{digits-div, digits-mod, mod-mul}
@@ -14,10 +14,12 @@ use lib.Seq.{drop-cons, take-all, set-getD}
 use lib.Signed.{leZ, ltZ}
 use Rattle.integers.specs.Radix.{at, offsetOf}
 use Rattle.integers.proofs.Laws.Parts.{ints}
-use Rattle.states.specs.State.{Ranges, Idle}
+use Rattle.states.specs.State.{Ranges, Within, Idle}
 use Rattle.states.specs.State.Ranges.{none as no-ranges, more as more-ranges}
-use Rattle.states.specs.Number.{sizeOf, countOf, stateOf, lastOf, advanceOf}
-use Rattle.states.proofs.Laws.Number.{size-pos, count-pos}
+use Rattle.states.specs.State.Within.{none as no-values, more as more-values}
+use Rattle.states.specs.Number.{sizeOf, countOf, stateOf, numberOf, lastOf, advanceOf}
+use Rattle.states.proofs.Laws.State.{within-ranges}
+use Rattle.states.proofs.Laws.Number.{size-pos, count-pos, number-below}
 
 -- ---- lists whose first part is still as it was
 
@@ -149,6 +151,57 @@ module _ (lows highs : List ℤ) (number : ℕ) where
       → state ≡ stateOf lows highs number
   digits-end state rest zero d p l = d .done ∙ rw (mod-eq-of-lt l)
   digits-end state rest (suc j) d p l = absurd (omega arith)
+
+-- ---- the number of a state
+
+abbrev pub numberFrom : List ℤ → List ℤ → List ℤ → ℕ → ℕ
+numberFrom lows highs state i = numberOf (drop i lows) (drop i highs) (drop i state)
+
+-- the variables from i on are numbered, and counted
+pub record Numbered (lows highs state : List ℤ) (number product i : ℕ) : Type 0 where
+  pub counted : Counted lows highs product i
+  pub deep : length state ≡ 12
+  pub done : number ≡ numberFrom lows highs state i
+
+within-from : {lows highs state : List ℤ} → Within lows highs state → (i : ℕ) → Within (drop i lows) (drop i highs) (drop i state)
+within-from w zero = w
+within-from no-values (suc i) = no-values
+within-from (more-values p q w) (suc i) = within-from w i
+
+module _ (lows highs state : List ℤ) where
+  pub numbered-begin : length lows ≡ 12 → length highs ≡ 12 → length state ≡ 12 → Numbered lows highs state 0 1 12
+  unfolding numberOf
+  numbered-begin e d c =
+      record {
+        counted = counted-begin lows highs e d;
+        deep = c;
+        done = rw (drop-of-length-le lows {i = 12} (omega arith));
+      }
+
+  number-from : (j : ℕ) → j < length lows → j < length highs → j < length state
+      → numberFrom lows highs state j
+      ≡ offsetOf (getD lows j (pos 0)) (getD state j (pos 0)) * countFrom lows highs (suc j) + numberFrom lows highs state (suc j)
+  unfolding numberOf
+  number-from j l m k = rw (drop-cons lows j (pos 0) l, drop-cons highs j (pos 0) m, drop-cons state j (pos 0) k)
+
+  pub numbered-step : (number product i : ℕ) → Numbered lows highs state number product i → 0 < i
+      → Numbered lows highs state (number + offsetOf (getD lows (i - 1) (pos 0)) (getD state (i - 1) (pos 0)) * product)
+      (product * sizeAt lows highs (i - 1)) (i - 1)
+  numbered-step number product zero n p = absurd (omega arith)
+  numbered-step number product (suc j) n p =
+      let c = n .counted in
+      record {
+        counted = counted-step lows highs product (suc j) c p;
+        deep = n .deep;
+        done = rw (n .done, c .done, sub-one, number-from j (omega arith) (omega arith) (omega arith)) (add-comm _ _);
+      }
+
+  pub numbered-below : Within lows highs state → (number product i : ℕ) → Numbered lows highs state number product i → number < countOf lows highs
+  numbered-below w number product i n = rw (n .done) (lt-of-lt-of-le (number-below (within-from w i)) (count-fewer (within-ranges w) i))
+
+  pub numbered-end : (number product i : ℕ) → Numbered lows highs state number product i → i ≤ 0 → number ≡ numberOf lows highs state
+  numbered-end number product zero n p = n .done
+  numbered-end number product (suc j) n p = absurd (omega arith)
 
 -- ---- the move forward
 

@@ -22,18 +22,15 @@ use Rattle.reading.specs.declared.Reading.{Reading}
 use Rattle.reading.specs.Read.{readOf}
 use Rattle.reading.proofs.Laws.Readable as readable
 use Rattle.truths.proofs.Laws.Any.{any-last}
-use Rattle.conditions.specs.Edges.{pairAt}
 use Rattle.testing.proofs.Laws.Targets.{isMarked}
 
--- the record of edge e is there, in a small file; its target is one of at most 32 nodes, and its pair one of at most 1,024
+-- the record of edge e is there, in a small file; its target is one of at most 32 nodes
 pub record EdgeHere (file : List ℕ) (o : Outline) (e : ℕ) : Type 0 where
   pub there : 8 * (o .edge + e) + 8 ≤ length file
   pub small : length file ≤ 32768
   pub target : fieldC file (o .edge + e) < 32
-  pub pair : pairAt file (o .edge + e) < 1024
 
 pub edge-here : (file : List ℕ) (o : Outline) → readOf file ≡ Reading.Readable o → (e : ℕ) → e < o .edges → EdgeHere file o e
-unfolding pairAt
 edge-here file o r e l =
     let x = readable.edge file o r e l in
     let few = readable.nodes-within file o r .1 in
@@ -41,7 +38,6 @@ edge-here file o r e l =
       there = omega (arith, readable.fits file o r .edges-here);
       small = readable.small file o r;
       target = omega (arith, x .to);
-      pair = omega (arith, x .from, x .transition, readable.transitions-within file o r);
     }
 
 pub eqb-swap : (a b : ℕ) → eqb a b ≡ eqb b a

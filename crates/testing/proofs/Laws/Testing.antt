@@ -3,9 +3,10 @@
 --     test-fits     what it speaks of can be evaluated at every state
 --     node-fits, claimed-fits, q-fits, transition-fits     and so can each node, claim, q and transition
 --     passes-vacuous, passes-concluded     a test passes where its premise does not hold, else by its conclusion
+--     steps-apart     a conclusion that speaks of a transition is another than one that doesn't
 -- Assumes nothing.
-use mathlib.Core.Path.{_≡_, refl, ap, _∙_}
-use mathlib.Core.Bool.{Bool, true, false, not, cond, _&&_, _||_, or-false}
+use mathlib.Core.Path.{_≡_, refl, sym, ap, _∙_}
+use mathlib.Core.Bool.{Bool, true, false, not, cond, _&&_, _||_, or-false, false≢true}
 use mathlib.Core.List.{List, [], _∷_, _++_}
 use Prim.Native.Nat.{ℕ, zero, suc, _+_, _-_, _≤_, _<_}
 use native.Mathlib.Omega.{arith}
@@ -186,3 +187,13 @@ module _ (lows highs : List ℤ) (file : List ℕ) (test : Test) (state : List �
         → passesOf lows highs file test state ≡ q
     unfolding passesOf implies
     passes-concluded t e = rw (← is, t, e)
+
+-- ---- whether a conclusion speaks of a transition
+abbrev pub steps : Conclusion → Bool
+steps Conclusion.SomeTarget = false
+steps Conclusion.ValuesInRange = true
+steps Conclusion.Reached = true
+steps Conclusion.Enabled = true
+
+pub steps-apart : {k c : Conclusion} → k ≡ c → steps c ≡ true → k ≡ Conclusion.SomeTarget → ⊥
+steps-apart e t f = false≢true (ap steps (sym f ∙ e) ∙ t)

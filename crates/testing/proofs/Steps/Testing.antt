@@ -1,7 +1,7 @@
--- The places chosen and the truths tried, one after the other; and a test, by what its step says.
+-- The places chosen and the truths tried, one after the other; and a test, by what its step says, of a state and of a box.
 -- Assumes nothing.
 use mathlib.Core.Path.{_≡_, refl, sym, ap, subst, _∙_}
-use mathlib.Core.Bool.{Bool, true, false, not, cond, _||_, false≢true}
+use mathlib.Core.Bool.{Bool, true, false, not, cond, _||_}
 use mathlib.Core.List.{List, [], _∷_, _++_, append-nil, append-assoc}
 use Prim.Native.Nat.{ℕ, suc, _+_, _-_, _≤_, _<_}
 use native.Mathlib.Numerals.{add-one}
@@ -15,8 +15,9 @@ use Rattle.reading.specs.declared.Reading.{Reading}
 use Rattle.reading.specs.Edge.{transitionAt}
 use Rattle.reading.specs.Read.{readOf}
 use Rattle.evaluating.specs.declared.Stepped.{Stepped}
-use Rattle.expressions.specs.Expression.{holdsOf}
-use Rattle.evaluating.specs.Transition.{guardOf, enabledOf, stepOf}
+use Rattle.records.specs.Kind.{truth as truthSort}
+use Rattle.expressions.specs.Expression.{partAt, holdsOf, Fits}
+use Rattle.evaluating.specs.Transition.{guardOf, enabledOf, stepOf, TransitionFits}
 use Rattle.conditions.specs.declared.Condition.{Condition}
 use Rattle.conditions.specs.declared.Condition.the-variants.{Start, Entry, Cover, Range, Step, Enabling}
 use Rattle.testing.specs.declared.Conclusion.{Conclusion}
@@ -28,13 +29,25 @@ use Rattle.conditions.specs.Condition.{Listed}
 use Rattle.truths.specs.Truth.{implies}
 use Rattle.truths.proofs.Laws.Truth.{implies-or}
 use Rattle.testing.specs.Testing.{marksOf, chosenFrom, targetsOf, chosenOf, nodePlaces, transitionPlaces, preparedOf, testOf}
-use Rattle.testing.specs.Testing.{someHolds, targetsListed, concludesOf}
+use Rattle.testing.specs.Testing.{someHolds, someIn, targetsListed, concludesOf, concludesIn, passesIn, TestFits}
 use Rattle.conditions.specs.Layout.{doubleOf}
 use Rattle.conditions.proofs.Laws.Condition.{Parts, listed-parts}
 use Rattle.conditions.proofs.Laws.Double.{double-is}
 use Rattle.testing.proofs.Laws.Targets.{chosen-last, chosen-most, node-at, transition-at, node-small}
 use Rattle.evaluating.proofs.Laws.Step.{step-enabled, step-next}
 use Rattle.testing.proofs.Laws.Marks.{eqb-swap}
+use Rattle.testing.proofs.Laws.Testing.{steps, steps-apart}
+use Rattle.boxes.specs.declared.Box.{Box}
+use Rattle.boxes.specs.Box.{Inside, Part}
+use Rattle.boxes.proofs.Laws.Half.{part-inside, low-inside}
+use Rattle.domains.specs.declared.seen.Seen.{Seen}
+use Rattle.domains.specs.declared.seen.Seen.the-variants.{Yes}
+use Rattle.domains.specs.Seen.{bothOf, eitherOf, impliesIn, impliedIn, sureOf, neverOf}
+use Rattle.domains.proofs.Laws.Seen.{either-none, either-assoc, never-implies, never-implied, sure-either}
+use Rattle.enclosures.specs.Enclosure.{seenOf}
+use Rattle.successors.specs.declared.Moved.{Moved}
+use Rattle.successors.specs.Successor.{moveOf}
+use Rattle.successors.proofs.Laws.Successor.{to-low}
 
 -- ---- the places chosen
 module _ (marks : List Bool) (nodes : List ℕ) where
@@ -86,36 +99,44 @@ module _ (marks : List Bool) (nodes : List ℕ) where
             record { passed = omega arith; counted = rw next (k .counted); filled = rw next (k .filled) }
 
 -- ---- the truths tried: the first `count` of the places; place i is next
-module _ (file places : List ℕ) (count i : ℕ) (state : List ℤ) (enough : count ≤ length places) where
-  pub some-end : count ≤ i → someHolds file (drop i (take count places)) state ≡ false
-  unfolding someHolds
-  some-end h = rw (drop-of-length-le (take count places) {i = i} (rw (length-take-le count places enough) h))
+module _ (file places : List ℕ) (count i : ℕ) (enough : count ≤ length places) where
+  no-place : count ≤ i → drop i (take count places) ≡ []
+  no-place h = drop-of-length-le (take count places) {i = i} (rw (length-take-le count places enough) h)
 
-  module _ (below : i < count) where
-    next-place : drop i (take count places) ≡ getD places i 0 ∷ drop (i + 1) (take count places)
-    next-place =
-        rw (add-one, ← (getD-take count places i 0 below)) (drop-cons (take count places) i 0 (rw (length-take-le count places enough) below))
+  next-place : i < count → drop i (take count places) ≡ getD places i 0 ∷ drop (i + 1) (take count places)
+  next-place below =
+      rw (add-one, ← (getD-take count places i 0 below)) (drop-cons (take count places) i 0 (rw (length-take-le count places enough) below))
 
-    pub some-here : holdsOf file (getD places i 0) state ≡ true → someHolds file (drop i (take count places)) state ≡ true
+  -- at a state
+  module _ (state : List ℤ) where
+    pub some-end : count ≤ i → someHolds file (drop i (take count places)) state ≡ false
     unfolding someHolds
-    some-here t = rw (next-place, t)
+    some-end h = rw (no-place h)
 
-    pub some-later : holdsOf file (getD places i 0) state ≡ false
+    pub some-here : i < count → holdsOf file (getD places i 0) state ≡ true → someHolds file (drop i (take count places)) state ≡ true
+    unfolding someHolds
+    some-here below t = rw (next-place below, t)
+
+    pub some-later : i < count → holdsOf file (getD places i 0) state ≡ false
         → someHolds file (drop i (take count places)) state ≡ someHolds file (drop (i + 1) (take count places)) state
     unfolding someHolds
-    some-later t = ap (λ (l : List ℕ). someHolds file l state) next-place ∙ rw t
+    some-later below t = ap (λ (l : List ℕ). someHolds file l state) (next-place below) ∙ rw t
+
+  -- on a box, where p is seen of the places before
+  module _ (b : Box) (p : Seen) (so-far : eitherOf p (someIn file (drop i (take count places)) b) ≡ someIn file (take count places) b) where
+    pub in-end : count ≤ i → p ≡ someIn file (take count places) b
+    unfolding someIn
+    in-end h = sym (either-none p) ∙ rw (no-place h) at so-far
+
+    module _ (below : i < count) {here q : Seen} (h : here ≡ seenOf file (getD places i 0) b) (is : q ≡ eitherOf p here) where
+      pub in-later : eitherOf q (someIn file (drop (i + 1) (take count places)) b) ≡ someIn file (take count places) b
+      unfolding someIn
+      in-later = rw (is, h) (either-assoc p _ _ ∙ rw (next-place below) at so-far)
+
+      pub in-sure : sureOf q ≡ true → q ≡ someIn file (take count places) b
+      in-sure e = sure-either q _ e ∙ in-later
 
 -- ---- a test
--- whether a conclusion speaks of a transition
-abbrev pub steps : Conclusion → Bool
-steps Conclusion.SomeTarget = false
-steps Conclusion.ValuesInRange = true
-steps Conclusion.Reached = true
-steps Conclusion.Enabled = true
-
-pub steps-apart : {k c : Conclusion} → k ≡ c → steps c ≡ true → k ≡ Conclusion.SomeTarget → ⊥
-steps-apart e t f = false≢true (ap steps (sym f ∙ e) ∙ t)
-
 module _ (lows highs : List ℤ) (file : List ℕ) (test : Test) (state : List ℤ) where
   pub concludes-some : test .conclusion ≡ Conclusion.SomeTarget
       → someHolds file (targetsListed test) state ≡ concludesOf lows highs file test (test .conclusion) state
@@ -148,6 +169,56 @@ module _ (lows highs : List ℤ) (file : List ℕ) (test : Test) (state : List �
     unfolding concludesOf implies
     concludes-reached k e =
         rw (k, ← enabled, e) (ap (someHolds file (targetsListed test)) (step-next lows highs file (test .transition) state is e))
+
+-- on a box
+module _ (ranges : Box) (file : List ℕ) (test : Test) (b : Box) where
+  pub in-some : test .conclusion ≡ Conclusion.SomeTarget → someIn file (targetsListed test) b ≡ concludesIn ranges file test (test .conclusion) b
+  unfolding concludesIn
+  in-some k = rw k
+
+  module _ {m : Moved} (is : m ≡ moveOf ranges file (test .transition) b) where
+    pub in-range : test .conclusion ≡ Conclusion.ValuesInRange → impliesIn (m .guard) (m .range) ≡ concludesIn ranges file test (test .conclusion) b
+    unfolding concludesIn
+    in-range k = rw (k, is)
+
+    pub in-enabled : test .conclusion ≡ Conclusion.Enabled → bothOf (m .guard) (m .range) ≡ concludesIn ranges file test (test .conclusion) b
+    unfolding concludesIn
+    in-enabled k = rw (k, is)
+
+    module _ {enabled : Seen} (e : enabled ≡ bothOf (m .guard) (m .range)) (k : test .conclusion ≡ Conclusion.Reached) where
+      pub in-reached : {some : Seen} → some ≡ someIn file (targetsListed test) (m .to)
+          → impliesIn enabled some ≡ concludesIn ranges file test (test .conclusion) b
+      unfolding concludesIn
+      in-reached s = rw (k, s, e, is)
+
+      pub in-idle : neverOf enabled ≡ true → Yes ≡ concludesIn ranges file test (test .conclusion) b
+      in-idle n = never-implies enabled _ n ∙ in-reached refl
+
+  module _ {p : Seen} (is : p ≡ seenOf file (test .premise) b) where
+    pub passes-seen : {q : Seen} → q ≡ concludesIn ranges file test (test .conclusion) b → impliedIn q p ≡ passesIn ranges file test b
+    unfolding passesIn
+    passes-seen e = rw (e, is)
+
+    pub passes-never : neverOf p ≡ true → Yes ≡ passesIn ranges file test b
+    passes-never n = never-implied p _ n ∙ passes-seen refl
+
+-- what a test on a box asks: its premise and its targets are evaluated at the low ends, and the targets of a step at those of the box that it leads to
+module _ {ranges : Box} {file : List ℕ} {test : Test} (fits : TestFits (ranges .low) (ranges .high) file test) {b : Box} (part : Part ranges b) where
+  low : Inside ranges (b .low)
+  low = part-inside part (low-inside part)
+
+  pub premise-in : Fits 16 truthSort (partAt file (test .premise)) (b .low)
+  premise-in = fits .premise _ low
+
+  pub targets-in : (i : ℕ) → i < test .count → Fits 16 truthSort (partAt file (getD (test .targets) i 0)) (b .low)
+  targets-in i l = fits .targets i l _ low
+
+  pub transition-in : {c : Conclusion} → test .conclusion ≡ c → steps c ≡ true → TransitionFits file (test .transition) (b .low)
+  transition-in e t = fits .transition (steps-apart e t) _ low
+
+  pub reached-in : {m : Moved} → m ≡ moveOf ranges file (test .transition) b
+      → (i : ℕ) → i < test .count → Fits 16 truthSort (partAt file (getD (test .targets) i 0)) (m .to .low)
+  reached-in is i l = rw is (fits .targets i l _ (to-low ranges file (test .transition) b low))
 
 -- ---- the test of a condition, by the tables of places
 module _ (file : List ℕ) (o : Outline) where

@@ -3,10 +3,9 @@
 --     is-true, so-true, is-false, so-false     `T b` and `b ≡ true` say the same, `T (not b)` and `b ≡ false` too
 --     same-truth                      truths that imply each other are equal
 --     implied, implies-or             what a true premise implies is true; the implication as a disjunction
---     implies-idle, implies-asked     an implication, by its premise
 --     implies-both, implies-own       an implication of an implication
+--     and-asked                       a conjunction with a true part is the other
 --     both, left, right, either       conjunctions and disjunctions of truths
---     and-first, and-second, and-asked     a conjunction with a false part is false; with a true one it is the other
 --     or-first, or-second, or-other, or-cases, or-neither     a disjunction is true by a part, and false where neither is true
 -- Assumes nothing.
 use mathlib.Core.Path.{_≡_, refl, sym}
@@ -52,14 +51,6 @@ unfolding implies
 implies-or true b = refl
 implies-or false b = refl
 
-pub implies-idle : {a : Bool} (b : Bool) → a ≡ false → implies a b ≡ true
-unfolding implies
-implies-idle b e = rw e
-
-pub implies-asked : {a b : Bool} (c : Bool) → a ≡ true → b ≡ c → implies a b ≡ c
-unfolding implies
-implies-asked c e f = rw (e, f)
-
 pub implies-both : (a b c : Bool) → implies a (implies b c) ≡ implies (a && b) c
 unfolding implies
 implies-both true b c = refl
@@ -84,13 +75,6 @@ left false b t = absurd t
 pub right : (a b : Bool) → T (a && b) → T b
 right true b t = t
 right false b t = absurd t
-
-pub and-first : (a b : Bool) → a ≡ false → (a && b) ≡ false
-and-first a b e = rw e
-
-pub and-second : (a b : Bool) → b ≡ false → (a && b) ≡ false
-and-second true b e = e
-and-second false b e = refl
 
 pub and-asked : {a b : Bool} (c : Bool) → a ≡ true → b ≡ c → (a && b) ≡ c
 and-asked c e f = rw (e, f)

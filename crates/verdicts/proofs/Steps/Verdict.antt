@@ -21,25 +21,26 @@ use Rattle.expressions.specs.Expression.{spansOf, Spans}
 use Rattle.states.specs.State.{lowsOf, highsOf, Ranges, Within, State, Idle}
 use Rattle.states.specs.Number.{countOf, stateOf, advanceOf}
 use Rattle.expressions.proofs.Laws.Span.{spans-right}
-use Rattle.states.proofs.Laws.State.{states-idle}
+use Rattle.states.proofs.Laws.State.{ends-length, states-idle}
 use Rattle.evaluating.proofs.Laws.Readable.{ranges, states-within, numbered, state-zero, next}
 use Rattle.conditions.specs.Condition.{totalOf, conditionAt, Listed, nodeNumber, transitionNumber}
 use Rattle.testing.specs.Holding.{conditionHolds}
 use Rattle.testing.specs.Testing.{nodePlaces, transitionPlaces, testOf, passesOf, TestFits}
-use Rattle.verdicts.specs.Verdict.{stateCount, stateAt, unnamedOf, namedOf, judgedOf, singleJudged}
-use Rattle.verdicts.specs.Acceptance.{LookedUp, Searched, Begun}
+use Rattle.verdicts.specs.Verdict.{stateCount, stateAt, unnamedOf, namedOf, isTrue, judgedOf, singleJudged}
+use Rattle.verdicts.specs.Model.{modelOf}
+use Rattle.verdicts.specs.declared.Model.{Model}
 use Rattle.conditions.specs.declared.Condition.{Condition}
 use Rattle.conditions.specs.declared.Condition.the-variants.{Start, Entry, Cover, Range, Step, Enabling}
 use Rattle.testing.specs.declared.Test.{Test}
 use Rattle.verdicts.specs.declared.Single.{Single}
 use Rattle.conditions.proofs.Laws.Condition.{Parts, condition-listed, listed-parts, total-most}
 use Rattle.testing.proofs.Laws.Testing.{prepared, test-fits}
+use Rattle.boxes.specs.Box.{box}
+use Rattle.searching.specs.declared.Search.{Search}
+use Rattle.searching.specs.declared.Skipped.{Skipped}
+use Rattle.searching.specs.Search.{skipTo, skipOf}
+use Rattle.searching.proofs.Laws.Search.{Passed, skipped}
 use Rattle.verdicts.proofs.Laws.Verdict.{true-at, Breaks, judged-broken, judged-whole}
-
-pub count-is : (file : List ℕ) (o : Outline) {low high : List ℤ} {states : ℕ} → low ≡ lowsOf file (o .vars) → high ≡ highsOf file (o .vars)
-    → states ≡ countOf low high → states ≡ stateCount file o
-unfolding stateCount
-count-is file o l h e = rw (← l, ← h) e
 
 -- ---- what is asked before the search
 module _ (file : List ℕ) (o : Outline) (r : readOf file ≡ Reading.Readable o) where
@@ -92,30 +93,10 @@ module _ (file : List ℕ) (o : Outline) (condition state : ℕ) where
   unfolding singleJudged
   tested-whole l m e = rw (lt-leb _ _ l, lt-leb _ _ m, ← e)
 
--- what is at hand before the search
-pub record Ready (file : List ℕ) (o : Outline) (low high : List ℤ) (states : ℕ) (nodes transitions : List ℕ) (total : ℕ) : Type 0 where
-  pub readable : readOf file ≡ Reading.Readable o
-  pub low-is : low ≡ lowsOf file (o .vars)
-  pub high-is : high ≡ highsOf file (o .vars)
-  pub states-are : states ≡ countOf low high
-  pub nodes-are : nodes ≡ nodePlaces file o
-  pub transitions-are : transitions ≡ transitionPlaces file o
-  pub total-is : total ≡ totalOf file o
-
-pub looked-ready : {file : List ℕ} {o : Outline} {spans : List ℕ} {low high : List ℤ} {states : ℕ} {nodes transitions : List ℕ} {total : ℕ}
-    → LookedUp file o spans low high nodes transitions → states ≡ stateCount file o → total ≡ totalOf file o
-    → Ready file o low high states nodes transitions total
-unfolding stateCount
-looked-ready k s t =
-    record {
-      readable = k .readable;
-      low-is = k .low-is;
-      high-is = k .high-is;
-      states-are = rw (k .low-is, k .high-is) s;
-      nodes-are = k .nodes-are;
-      transitions-are = k .transitions-are;
-      total-is = t;
-    }
+-- so many conditions, from the first on, are true
+pub record Searched (file : List ℕ) (o : Outline) (number : ℕ) : Type 0 where
+  pub passed : number ≤ totalOf file o
+  pub held : (k : ℕ) → k < number → isTrue file o (conditionAt file o k) ≡ true
 
 -- ---- the loops
 module _ (file : List ℕ) (o : Outline) where
@@ -167,106 +148,149 @@ module _ (file : List ℕ) (o : Outline) {low high : List ℤ} {states : ℕ} (r
             held = below-more _ n (p .held) (pass-here f);
           }
 
-module _ {file : List ℕ} {o : Outline} {low high : List ℤ} {states : ℕ} {nodes transitions : List ℕ} {total : ℕ}
-    (h : Ready file o low high states nodes transitions total) where
-  pub states-small : states ≤ 1048576
-  states-small = rw (h .states-are) (count-asks file o (h .readable) (h .low-is) (h .high-is) .1)
+-- ---- with what is looked up once
+abbrev pub searchOf : Model → Test → Search
+searchOf m test = record { ranges = box (m .low) (m .high); test = test }
 
-  pub total-small : total ≤ 2081
-  total-small = rw (h .total-is) (total-most file o (h .readable))
+pub record Ready (file : List ℕ) (o : Outline) (m : Model) : Type 0 where
+  pub readable : readOf file ≡ Reading.Readable o
+  pub model-is : m ≡ modelOf file o
 
-  states-all : states ≡ stateCount file o
-  states-all = count-is file o (h .low-is) (h .high-is) (h .states-are)
+module _ {file : List ℕ} {o : Outline} {m : Model} (h : Ready file o m) where
+  low-is : m .low ≡ lowsOf file (o .vars)
+  unfolding modelOf
+  low-is = rw (h .model-is)
+
+  high-is : m .high ≡ highsOf file (o .vars)
+  unfolding modelOf
+  high-is = rw (h .model-is)
+
+  pub states-are : m .states ≡ stateCount file o
+  unfolding modelOf
+  states-are = rw (h .model-is)
+
+  pub total-is : m .total ≡ totalOf file o
+  unfolding modelOf
+  total-is = rw (h .model-is)
+
+  pub states-small : m .states ≤ 1048576
+  unfolding stateCount
+  states-small = rw states-are (states-within file o (h .readable) .1)
+
+  pub total-small : m .total ≤ 2081
+  total-small = rw total-is (total-most file o (h .readable))
 
   -- so many tests are counted in 64 bits
-  pub tests-small : {number : ℕ} → number ≤ total → number * states ≤ 2182086656
+  pub tests-small : {number : ℕ} → number ≤ m .total → number * m .states ≤ 2182086656
   tests-small l = mul-le-mul (le-trans l total-small) states-small
 
   pub broke-small : {c : Condition} {n : ℕ} → Breaks file o c n → n ≤ 1048576
-  broke-small b = omega (arith, b .state, states-all, states-small)
+  broke-small b = omega (arith, b .state, states-are, states-small)
 
   -- ---- the state of a number
-  pub state-asks : {n : ℕ} → n < states → Ranges low high × (n < countOf low high)
-  state-asks l = (count-asks file o (h .readable) (h .low-is) (h .high-is) .0, rw (← h .states-are) l)
+  pub state-asks : {n : ℕ} → n < m .states → Ranges (m .low) (m .high) × (n < countOf (m .low) (m .high))
+  unfolding stateCount
+  state-asks l = rw (low-is, high-is) (ranges file o (h .readable), rw states-are at l)
 
-  state-is : (n : ℕ) {state : List ℤ} → state ≡ stateOf low high n → state ≡ stateAt file o n
+  state-is : (n : ℕ) {state : List ℤ} → state ≡ stateOf (m .low) (m .high) n → state ≡ stateAt file o n
   unfolding stateAt
-  state-is n e = rw (← h .low-is, ← h .high-is) e
+  state-is n e = rw (← low-is, ← high-is) e
 
   -- ---- a condition, and its tests at the states
   abbrev pub holdsAt : ℕ → List ℤ → Bool
   holdsAt number state = conditionHolds file o (conditionAt file o number) state
 
-  pub passed-begin : (number : ℕ) → StatesPassed file o (holdsAt number) low 0
-  passed-begin number = pass-begin file o (h .readable) (h .low-is) (h .high-is) states-all
+  pub passed-begin : (number : ℕ) → StatesPassed file o (holdsAt number) (m .low) 0
+  passed-begin number = pass-begin file o (h .readable) low-is high-is states-are
 
-  pub passed-from : {number sure end from : ℕ} → number < total → Begun file o sure end from → number < end → {state : List ℤ}
-      → state ≡ stateOf low high from → StatesPassed file o (holdsAt number) state from
-  passed-from {number} {sure} {end} {from} l b m e =
-      let f = b .below in
-      record {
-        passed = omega arith;
-        here = λ j. state-is from e;
-        held = λ n j. b .each number n m (rw (← h .total-is) l) j;
-      }
-
-  module _ {number : ℕ} (below : number < total) {c : Condition} (is : c ≡ conditionAt file o number) where
+  module _ {number : ℕ} (below : number < m .total) {c : Condition} (at : c ≡ conditionAt file o number) where
     listed : Listed file o c
-    listed = rw is (condition-listed file o (h .readable) number (rw (← h .total-is) below))
+    listed = rw at (condition-listed file o (h .readable) number (rw (← total-is) below))
 
-    pub test-asks : (readOf file ≡ Reading.Readable o) × ((nodes ≡ nodePlaces file o) × ((transitions ≡ transitionPlaces file o) × Listed file o c))
-    test-asks = (h .readable, (h .nodes-are, (h .transitions-are, listed)))
+    pub test-asks : (readOf file ≡ Reading.Readable o) × ((m .nodes ≡ nodePlaces file o) × ((m .transitions ≡ transitionPlaces file o) × Listed file o c))
+    unfolding modelOf
+    test-asks = (h .readable, (rw (h .model-is), (rw (h .model-is), listed)))
 
     pub named-asks : (nodeNumber c ≤ 255) × (transitionNumber c ≤ 255)
     named-asks = names-small file o (h .readable) c listed
 
     module _ {test : Test} (of : test ≡ testOf file o c) where
-      passes-asks : {state : List ℤ} → State file (o .vars) state → Within low high state × TestFits low high file test
-      passes-asks s = rw (h .low-is, h .high-is, of) (s, test-fits file o (h .readable) c listed)
+      pub test-asked : TestFits (m .low) (m .high) file test
+      test-asked = rw (low-is, high-is, of) (test-fits file o (h .readable) c listed)
 
-      passes-is : (state : List ℤ) → passesOf low high file test state ≡ holdsAt number state
-      passes-is state = rw (h .low-is, h .high-is, of, ← is) (prepared file o (h .readable) c listed state)
+      passes-asks : {state : List ℤ} → State file (o .vars) state → Within (m .low) (m .high) state × TestFits (m .low) (m .high) file test
+      passes-asks s = (rw (low-is, high-is) s, test-asked)
+
+      passes-is : (state : List ℤ) → passesOf (m .low) (m .high) file test state ≡ holdsAt number state
+      passes-is state = rw (low-is, high-is, of, ← at) (prepared file o (h .readable) c listed state)
 
       -- one test
-      module _ {n : ℕ} (l : n < states) {state : List ℤ} (e : state ≡ stateOf low high n) where
-        pub single-asks : Within low high state × TestFits low high file test
-        single-asks = passes-asks (rw (state-is n e) (at-within file o (h .readable) (h .low-is) (h .high-is) states-all l))
+      module _ {n : ℕ} (l : n < m .states) {state : List ℤ} (e : state ≡ stateOf (m .low) (m .high) n) where
+        pub single-asks : Within (m .low) (m .high) state × TestFits (m .low) (m .high) file test
+        single-asks = passes-asks (rw (state-is n e) (at-within file o (h .readable) low-is high-is states-are l))
 
-        pub single-answers : {b : Bool} → b ≡ passesOf low high file test state → singleJudged file o number n ≡ cond b Single.Holds Single.Fails
+        pub single-answers : {b : Bool} → b ≡ passesOf (m .low) (m .high) file test state → singleJudged file o number n ≡ cond b Single.Holds Single.Fails
         single-answers f =
-            tested-whole file o number n (rw (← h .total-is) below) (rw (← states-all) l) (rw (state-is n e) at (f ∙ passes-is state))
+            tested-whole file o number n (rw (← total-is) below) (rw (← states-are) l) (rw (state-is n e) at (f ∙ passes-is state))
 
       -- one test after the other
-      module _ {state : List ℤ} {n : ℕ} (p : StatesPassed file o (holdsAt number) state n) (l : n < states) where
-        pub passed-asks : Within low high state × TestFits low high file test
-        passed-asks = passes-asks (pass-within file o (h .readable) (h .low-is) (h .high-is) states-all l p)
+      module _ {state : List ℤ} {n : ℕ} (p : StatesPassed file o (holdsAt number) state n) (l : n < m .states) where
+        pub passed-asks : Within (m .low) (m .high) state × TestFits (m .low) (m .high) file test
+        passed-asks = passes-asks (pass-within file o (h .readable) low-is high-is states-are l p)
 
-        pub advance-asks : (o .vars ≤ 12) × Idle (o .vars) low high state
-        advance-asks = pass-idle file o (h .readable) (h .low-is) (h .high-is) states-all l p
+        pub advance-asks : (o .vars ≤ 12) × Idle (o .vars) (m .low) (m .high) state
+        advance-asks = pass-idle file o (h .readable) low-is high-is states-are l p
 
-        pub passed-more : passesOf low high file test state ≡ true → {after : List ℤ} → after ≡ advanceOf low high state
+        pub passed-more : passesOf (m .low) (m .high) file test state ≡ true → {after : List ℤ} → after ≡ advanceOf (m .low) (m .high) state
             → StatesPassed file o (holdsAt number) after (n + 1)
-        passed-more f = pass-more file o (h .readable) (h .low-is) (h .high-is) states-all l p (sym (passes-is state) ∙ f)
+        passed-more f = pass-more file o (h .readable) low-is high-is states-are l p (sym (passes-is state) ∙ f)
 
-        pub passed-broke : passesOf low high file test state ≡ false → Broke file o number state n
+        pub passed-broke : passesOf (m .low) (m .high) file test state ≡ false → Broke file o number state n
         passed-broke f =
-            let m : n < stateCount file o = rw (← states-all) l in
-            let fails = pass-here file o (h .readable) (h .low-is) (h .high-is) states-all l p (sym (passes-is state) ∙ f) in
-            (p .here m, record { state = m; held = p .held; fails = fails })
+            let k : n < stateCount file o = rw (← states-are) l in
+            let fails = pass-here file o (h .readable) low-is high-is states-are l p (sym (passes-is state) ∙ f) in
+            (p .here k, record { state = k; held = p .held; fails = fails })
+
+      -- skipping by boxes
+      pub skip-asks : TestFits (m .low) (m .high) file test × (Ranges (m .low) (m .high) × (countOf (m .low) (m .high) ≤ 1048576))
+      skip-asks = (test-asked, rw (low-is, high-is) (ranges file o (h .readable), states-within file o (h .readable) .1))
+
+      pub passed-skip : {state : List ℤ} {n : ℕ} → StatesPassed file o (holdsAt number) state n → (budget : ℕ) {found : Skipped}
+          → found ≡ skipOf file (searchOf m test) (m .states) (skipTo state n) budget
+          → StatesPassed file o (holdsAt number) (found .state) (found .number) × (n ≤ found .number)
+      unfolding stateCount stateAt
+      passed-skip {state} {n} p budget {found} e =
+          let long : length (m .low) ≡ 12 = rw low-is (ends-length file (o .vars) 2) in
+          let all : m .states ≡ countOf (m .low) (m .high) = rw (low-is, high-is) states-are in
+          let from : Passed file (searchOf m test) test-asked long (m .states) (skipTo state n) =
+          record {
+            most = omega (arith, p .passed, states-are);
+            here = λ l. rw (low-is, high-is) (p .here (omega (arith, l, states-are)));
+            held = λ k l. passes-is _ ∙ rw (low-is, high-is) (p .held k l);
+          } in
+          let r = skipped file (searchOf m test) test-asked long (skip-asks .1 .0) all from budget in
+          rw e (
+            record {
+              passed = omega (arith, r .0 .most, states-are);
+              here = λ l. rw (← low-is, ← high-is) (r .0 .here (omega (arith, l, states-are)));
+              held = λ k l. sym (passes-is _) ∙ rw (← low-is, ← high-is) (r .0 .held k l);
+            },
+            r .1,
+          )
 
   -- ---- the conditions
   module _ {number : ℕ} (s : Searched file o number) where
-    pub searched-more : number < total → {state : List ℤ} {n : ℕ} → StatesPassed file o (holdsAt number) state n → states ≤ n
+    pub searched-more : number < m .total → {state : List ℤ} {n : ℕ} → StatesPassed file o (holdsAt number) state n → m .states ≤ n
         → Searched file o (number + 1)
-    searched-more l p m =
+    searched-more l p z =
         record {
-          passed = omega (arith, l, h .total-is);
-          held = below-more _ number (s .held) (true-at file o (conditionAt file o number) (λ k j. p .held k (omega (arith, j, m, states-all))));
+          passed = omega (arith, l, total-is);
+          held = below-more _ number (s .held) (true-at file o (conditionAt file o number) (λ k j. p .held k (omega (arith, j, z, states-are))));
         }
 
-    pub searched-broke : number < total → {c : Condition} → c ≡ conditionAt file o number → {state : List ℤ} {n : ℕ} → Broke file o number state n
-        → {tests : ℕ} → tests ≡ number * states + n + 1 → namedOf c number state tests ≡ judgedOf file o
-    searched-broke l is {n = n} b e = rw (is, b .0, e, states-all) (sym (judged-broken file o number (rw (← h .total-is) l) (s .held) n (b .1)))
+    pub searched-broke : number < m .total → {c : Condition} → c ≡ conditionAt file o number → {state : List ℤ} {n : ℕ} → Broke file o number state n
+        → {tests : ℕ} → tests ≡ number * m .states + n + 1 → namedOf c number state tests ≡ judgedOf file o
+    searched-broke l at {n = n} b e = rw (at, b .0, e, states-are) (sym (judged-broken file o number (rw (← total-is) l) (s .held) n (b .1)))
 
-    pub searched-end : total ≤ number → {tests : ℕ} → tests ≡ total * states → unnamedOf 0 total tests ≡ judgedOf file o
-    searched-end l e = rw (e, h .total-is, states-all) (sym (judged-whole file o (λ k j. s .held k (omega (arith, j, l, h .total-is)))))
+    pub searched-end : m .total ≤ number → {tests : ℕ} → tests ≡ m .total * m .states → unnamedOf 0 (m .total) tests ≡ judgedOf file o
+    searched-end l e = rw (e, total-is, states-are) (sym (judged-whole file o (λ k j. s .held k (omega (arith, j, l, total-is)))))

@@ -1,0 +1,86 @@
+"""The files of the benchmark, by name."""
+
+from collections import namedtuple
+from pathlib import Path
+
+from vd import state_number
+from . import adversarial, drawn, extreme, systems
+
+EXAMPLES = Path(__file__).resolve().parents[2] / "examples"
+
+# `broken` is the condition that is broken and the number of the state, None for an accepted file, or
+# ANY; `slow` says that testing every condition at every state takes over 10 seconds.
+File = namedtuple("File", "name bytes broken slow")
+ANY = object()
+
+
+def _file(name, content, broken=None, slow=False):
+    return File(name, content if isinstance(content, bytes) else content.to_bytes(), broken, slow)
+
+
+def examples():
+    """Those that no refusal meets before the conditions."""
+    for path in sorted(EXAMPLES.glob("*.vd")):
+        answer = path.with_suffix(".txt").read_text().split("\nanswer: ")[1]
+        if not 0 < int(answer[:2], 16) < 13:
+            yield _file(path.stem, path.read_bytes(), ANY, path.stem == "pages-largest")
+
+
+def models():
+    yield _file("pages-one-node", systems.pages_one_node(), (55, 787572), True)
+    yield _file("clocks", systems.clocks())
+    yield _file("clocks-broken", systems.clocks(broken=True), (5, 980990))
+    yield _file("philosophers", systems.philosophers())
+
+
+def random():
+    """Named by nodes, transitions, size of the expressions and bits of the number of states."""
+    for size in (5, 15, 100):
+        yield _file("random-1-1-%d-20" % size, drawn.accepted(20, 1, 1, size))
+    yield _file("random-4-4-15-20", drawn.accepted(20, 4, 4, 15))
+    yield _file("random-4-16-15-20", drawn.accepted(20, 4, 16, 15), slow=True)
+    yield _file("random-chain-20", drawn.accepted_chain(20))
+    for bits in (14, 16, 18):
+        yield _file("random-1-1-15-%d" % bits, drawn.accepted(bits, 1, 1, 15))
+    for transitions in (1, 2, 4, 8, 16):
+        yield _file("random-4-%d-15-16" % transitions, drawn.accepted(16, 4, transitions, 15))
+    last = (1 << 20) - 1
+    yield _file("random-broken-last", drawn.broken(20, 1, 1, 15, last=True), (3, last))
+    yield _file("random-broken-first", drawn.broken(20, 1, 1, 15), (3, 0))
+    yield _file("random-broken-first-5", drawn.broken(20, 1, 1, 5), (3, 0))
+    yield _file("random-broken-first-4-4", drawn.broken(20, 4, 4, 15), (36, 0))
+
+
+def adversaries():
+    for nodes, transitions in ((1, 1), (2, 2), (4, 4), (8, 8), (8, 24)):
+        yield _file("parity-%d-%d" % (nodes, transitions),
+                    adversarial.parities(nodes, transitions))
+    yield _file("parity-even-or-odd", adversarial.parities(4, 4, plain=False))
+    yield _file("parity-binary", adversarial.parities(4, 4, adversarial.SMALL))
+    yield _file("parity-but-two", adversarial.parities(4, 4, leave=2))
+    for name, values in adversarial.PLACES.items():
+        d = adversarial.parity_broken(values)
+        state = state_number(values, [(v.low, v.high) for v in d.system.variables])
+        yield _file("parity-broken-" + name, d, (0, state))
+    yield _file("parity-broken-step", adversarial.parity_broken_step(4, 4), (36, (1 << 20) - 2))
+    yield _file("rare", adversarial.rare(), (12, 0))
+    for size in (1, 4):
+        yield _file("identity-%d" % size, adversarial.identity(size, size))
+    for transitions in (1, 8):
+        yield _file("giant-%d" % transitions, adversarial.giant(transitions))
+    for transitions in (1, 16):
+        yield _file("hostile-%d" % transitions, adversarial.hostile(transitions))
+
+
+def most(size):
+    """Files with so many nodes and transitions at a million states."""
+    for truth in (extreme.decided, extreme.undecided):
+        yield _file("most-%s-%d" % (truth.__name__, size), extreme.most(truth, size, size))
+
+
+def stack():
+    yield _file("smallest", extreme.smallest())
+    for shape in (*extreme.AROUND, *extreme.WORTH):
+        for broken in (False, True):
+            yield _file("deep-%s%s" % (shape, "-broken" * broken), extreme.deep(shape, broken),
+                        (3, (1 << 20) - 1) if broken else None)

@@ -1,0 +1,148 @@
+"""Files made against a check of whole boxes of states: intervals decide their conditions only at
+single states, or evaluating a box costs much more than evaluating a state."""
+
+from vd import AND, IFF, OR, Diagram, System, Truth, all_of, false, invariance, true
+
+# Twelve variables, so many of them in 0..3 and the rest in 0..1.
+SMALL, MIDDLE, LARGE = 0, 4, 8
+
+
+def nested(kind, truths):
+    """The truths joined to the right, one level for each."""
+    *others, joined = truths
+    for t in reversed(others):
+        joined = Truth(kind, t, joined)
+    return joined
+
+
+def parity(variables, odd=False):
+    """Whether the count of the variables that are not 0 is even. No interval tells before a box is a
+    single state."""
+    even = nested(IFF, [v == 0 for v in variables])
+    return ~even if odd else even
+
+
+def tree(depth, leaf, at=0):
+    """A tree of `or` over `and`, with 2 to the depth leaves."""
+    if depth == 0:
+        return leaf(at)
+    return Truth(OR if depth % 2 else AND, tree(depth - 1, leaf, 2 * at),
+                 tree(depth - 1, leaf, 2 * at + 1))
+
+
+def twelve(wide):
+    """A system with twelve variables; there are 2 to the (12 + wide) states."""
+    s = System()
+    for i in range(12):
+        s.variable("v%d" % i, 0, 3 if i < wide else 1)
+    return s
+
+
+def square():
+    """Two variables in 0..255."""
+    s = System()
+    return s, s.variable("x", 0, 255), s.variable("y", 0, 255)
+
+
+def flip(s, *variables):
+    """Assignments that exchange a variable's ends."""
+    return [s.variables[i].set(s.variables[i].high - s.variables[i]) for i in variables]
+
+
+def flips(s, first, t):
+    """Assignments that flip two variables in 0..1, so that the parity stays."""
+    count = 12 - first
+    return flip(s, first + t % count, first + (t + 1) % count)
+
+
+def diagram(s, start, transitions, q, nodes):
+    s.start(start)
+    for guard, assignments in transitions:
+        s.transition("t", guard, *assignments)
+    d = Diagram(s, invariance(q))
+    for node in nodes:
+        d.node(node)
+    return d
+
+
+def parities(nodes, transitions, wide=MIDDLE, leave=0, plain=True):
+    """Nodes and guards are parities that leave out the first variables, so many; steps keep them. q is
+    true, or unless it is to be plain: even or odd, which intervals don't see either."""
+    s = twelve(wide)
+    counted = s.variables[leave:]
+    backward = counted[::-1]
+    return diagram(
+        s, parity(counted),
+        [(parity(backward, t // 2 % 2), flips(s, wide, t)) for t in range(transitions)],
+        true if plain else Truth(OR, parity(counted), parity(backward, True)),
+        [parity(counted, n % 2) for n in range(nodes)])
+
+
+# States of even parity, early or late among 2 to the 20, by the values of their variables.
+PLACES = {"early": [0] * 10 + [1, 1], "middle": [2] + [0] * 10 + [1], "late": [3] * 8 + [1] * 4}
+
+
+def parity_broken(values):
+    """One parity as start and node; the node leaves out the state of these values, so that the start,
+    the first condition, is broken there."""
+    s = twelve(LARGE)
+    here = nested(AND, [v == x for v, x in zip(s.variables, values)])
+    return diagram(s, parity(s.variables), [], true, [Truth(AND, parity(s.variables[::-1]), ~here)])
+
+
+def parity_broken_step(nodes, transitions):
+    """Parities, and the last transition flips a single variable where all others have their high
+    ends. Of an even count of nodes the last, an odd one, has no edge for it: the last condition is
+    broken, at the last state but one."""
+    d = parities(nodes, transitions, LARGE)
+    s, last = d.system, d.system.transitions[-1]
+    last.guard, last.assignments = all_of(v == v.high for v in s.variables[:-1]), flip(s, 11)
+    for n in range(nodes - 1):
+        d.edge(last, n, n ^ 1)
+    return d
+
+
+def rare():
+    """A node holds for one value of the last three variables, and a parity: rarely."""
+    s = twelve(MIDDLE)
+
+    def node(n):
+        return nested(AND, [parity(s.variables[:8], n % 2)]
+                      + [s.variables[11 - i] == (n >> i & 1) for i in range(3)])
+    start = nested(AND, [parity(s.variables[:8])] + [v == 0 for v in s.variables[9:]])
+    d = diagram(s, start, [(true, flip(s, 11 - t % 3, 4)) for t in range(8)], true,
+                [node(n) for n in range(8)])
+    for n in range(8):
+        for t in s.transitions:
+            d.edge(t, n, n ^ 1 << t.index % 3)
+    return d
+
+
+def identity(nodes, transitions):
+    """(x + y)(x - y) = x x - y y, everywhere."""
+    s, x, y = square()
+    same = (x + y) * (x - y) == x * x - y * y
+    return diagram(s, same, [(s.variables[t % 2] < 255 - t,
+                              [s.variables[t % 2].set(s.variables[t % 2] + 1)])
+                             for t in range(transitions)], same, [same] * nodes)
+
+
+def giant(transitions):
+    """A conjunct that is never true, 2 v = 1, and then one of 2,047 records that is undecided where
+    the first is."""
+    s = twelve(MIDDLE)
+    last = s.variables[11]
+    never = 2 * last == 1
+    huge = tree(9, lambda at: last == (at + 1) % 2)
+    return diagram(s, Truth(AND, never, parity(s.variables)),
+                   [(true, flips(s, MIDDLE, t)) for t in range(transitions)], false,
+                   [Truth(AND, never, huge)])
+
+
+def hostile(transitions):
+    """A conjunct that is never true, which no interval tells, and then one of 2,047 records that is
+    undecided on all boxes at the diagonal."""
+    s, x, y = square()
+    never = (x + y) * (x - y) + 1 == x * x - y * y
+    huge = tree(9, lambda at: x == y if at % 2 else x <= y)
+    return diagram(s, never, [(true, flip(s, 0))] * transitions, false, [Truth(AND, never, huge)])

@@ -1,0 +1,57 @@
+"""Models of systems: editors who share a page, clocks, philosophers."""
+
+from models.pages import NAME, WAITS, Pages, names
+from vd import Diagram, System, all_of, any_of, invariance
+
+# A philosopher's phases: from LEFT to EATS it has the left fork, from EATS to RIGHT the right one.
+THINKS, HUNGRY, LEFT, EATS, RIGHT = range(5)
+DOWN = 0
+
+
+def pages_one_node():
+    """Six editors and the claim of pages-largest with one node. The last editor takes the page while
+    the first, who has it, is about to give it back: the step of transition 26 of 30 is broken, where
+    the slowest variable has its high end."""
+    s = Pages(6, 3, fair=False)
+    s["lock5"].guard = all_of(s.pc[5] == WAITS, any_of(s.lock == 0, s.pc[0] == NAME))
+    parts = names(s)
+    d = Diagram(s, parts.claim)
+    d.node(any_of(*parts.nodes))
+    return d
+
+
+def clocks(broken=False):
+    """Two clocks that count to 999 and drift at most 10 apart. A broken second one, when the first
+    stands at 980, ticks once too often: the last condition is broken, at state 980,990."""
+    s = System()
+    x, y = s.variable("x", 0, 999), s.variable("y", 0, 999)
+    near = all_of(x - y <= 10, y - x <= 10)
+    s.start(all_of(x == 0, y == 0))
+    s.transition("tick x", all_of(x < 999, x - y < 10), x.set(x + 1))
+    drift = y - x < 10
+    s.transition("tick y", all_of(y < 999, any_of(drift, x == 980) if broken else drift),
+                 y.set(y + 1))
+    d = Diagram(s, invariance(near))
+    d.node(near)
+    return d
+
+
+def philosophers():
+    """Four dining philosophers, who take first the left fork, then the right one: no two neighbours
+    eat. A fork is down, or 1 more than the philosopher who has it."""
+    s, seats = System(), range(4)
+    pc = [s.variable("pc%d" % i, THINKS, RIGHT) for i in seats]
+    fork = [s.variable("fork%d" % i, DOWN, len(seats)) for i in seats]
+    s.start(all_of([v == THINKS for v in pc], [v == DOWN for v in fork]))
+    for i in seats:
+        left, right, mine = fork[i], fork[i - 1], 1 + i
+        s.transition("hunger", pc[i] == THINKS, pc[i].set(HUNGRY))
+        s.transition("left", all_of(pc[i] == HUNGRY, left == DOWN), pc[i].set(LEFT), left.set(mine))
+        s.transition("right", all_of(pc[i] == LEFT, right == DOWN), pc[i].set(EATS),
+                     right.set(mine))
+        s.transition("put left", pc[i] == EATS, pc[i].set(RIGHT), left.set(DOWN))
+        s.transition("put right", pc[i] == RIGHT, pc[i].set(THINKS), right.set(DOWN))
+    d = Diagram(s, invariance(all_of(~all_of(pc[i - 1] == EATS, pc[i] == EATS) for i in seats)))
+    d.node(all_of(all_of((pc[i].among(LEFT, EATS)) == (fork[i] == 1 + i),
+                         (pc[i].among(EATS, RIGHT)) == (fork[i - 1] == 1 + i)) for i in seats))
+    return d

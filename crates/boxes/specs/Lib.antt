@@ -1,0 +1,3 @@
+-- Boxes of states, and their halves.
+pub mod Box
+pub mod Half

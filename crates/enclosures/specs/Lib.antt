@@ -1,0 +1,2 @@
+-- What expressions are worth on a box of states.
+pub mod Enclosure

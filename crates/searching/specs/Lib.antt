@@ -1,0 +1,3 @@
+-- The search of whole boxes of states for one that breaks a condition.
+pub mod Search
+pub mod Budget

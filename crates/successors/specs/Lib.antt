@@ -1,0 +1,2 @@
+-- Where transitions lead from a box of states.
+pub mod Successor

@@ -3,9 +3,8 @@ use mathlib.Core.Bool.{cond}
 use mathlib.Core.List.{List, [], _∷_, _++_, List·Memᴰ}
 use Prim.Native.Nat.{ℕ, zero, suc, _+_, _-_}
 use lib.ListN.{length, getD}
-use lib.Dec.{eqb}
-use Rattle.parsing.specs.declared.Outline.{Outline}
-use Rattle.reading.specs.Edge.{diagram}
+use Rattle.diagrams.specs.declared.Diagram.{Diagram}
+use Rattle.shapes.specs.Property.{propertyOf}
 use Rattle.conditions.specs.Edges.{isDouble}
 use Rattle.conditions.specs.declared.Condition.{Condition}
 use Rattle.conditions.specs.declared.Condition.the-variants.{Start, Entry, Cover, Range, Step, Enabling}
@@ -16,33 +15,35 @@ each f zero at = []
 each f (suc n) at = f at ++ each f n (at + 1)
 
 -- of node n and transition t "range .., step", "and after the step of the node's double transition, enabling, of the node and that transition"
-unfoldable pub movesOf : List ℕ → Outline → ℕ → ℕ → List Condition
-movesOf file o n t = Range n t ∷ Step n t ∷ cond (isDouble file o n t) (Enabling n t ∷ []) []
+unfoldable pub movesOf : List ℕ → Diagram → ℕ → ℕ → List Condition
+movesOf file g n t = Range n t ∷ Step n t ∷ cond (isDouble file g n t) (Enabling n t ∷ []) []
 
--- the opening; cover, of the first `covers` nodes; then by node, from `from` up, and by transition
-unfoldable pub conditionsFrom : List ℕ → Outline → Condition → ℕ → ℕ → List Condition
-conditionsFrom file o opening covers from =
-    opening ∷ each (λ n. Cover n ∷ []) covers 0 ++ each (λ n. each (movesOf file o n) (o .transitions) 0) (o .nodes - from) from
+-- "start", or "entry"
+unfoldable pub openingOf : Diagram → Condition
+openingOf g = cond (propertyOf (g .claim) .entry) Entry Start
+
+-- "cover, by node", or "of node 0"
+unfoldable pub coveredOf : Diagram → ℕ
+coveredOf g = cond (propertyOf (g .claim) .covered) (g .nodes) 1
 
 -- "Invariance: start ..; cover, by node ..; then by node, by transition: range .., step."
 -- "Wait-for: entry ..; cover ..; then range and step for nodes 1 up."
 -- "Chain: entry; cover, of node 0 ..; then range, step for nodes 1 up, and after the step of the node's double transition, enabling"
-unfoldable pub conditionsOf : List ℕ → Outline → List Condition
-conditionsOf file o =
-    cond (eqb (diagram file o) 1) (conditionsFrom file o Start (o .nodes) 0)
-    (cond (eqb (diagram file o) 2) (conditionsFrom file o Entry (o .nodes) 1)
-    (conditionsFrom file o Entry 1 1))
+unfoldable pub conditionsOf : List ℕ → Diagram → List Condition
+conditionsOf file g =
+    let from = propertyOf (g .claim) .from in
+    openingOf g ∷ each (λ n. Cover n ∷ []) (coveredOf g) 0 ++ each (λ n. each (movesOf file g n) (g .transitions) 0) (g .nodes - from) from
 
-unfoldable pub totalOf : List ℕ → Outline → ℕ
-totalOf file o = length (conditionsOf file o)
+unfoldable pub totalOf : List ℕ → Diagram → ℕ
+totalOf file g = length (conditionsOf file g)
 
 -- condition c, counted from 0
-unfoldable pub conditionAt : List ℕ → Outline → ℕ → Condition
-conditionAt file o c = getD (conditionsOf file o) c Start
+unfoldable pub conditionAt : List ℕ → Diagram → ℕ → Condition
+conditionAt file g c = getD (conditionsOf file g) c Start
 
 -- c is one of the file's conditions
-abbrev pub Listed : List ℕ → Outline → Condition → Type 0
-Listed file o c = List·Memᴰ c (conditionsOf file o)
+abbrev pub Listed : List ℕ → Diagram → Condition → Type 0
+Listed file g c = List·Memᴰ c (conditionsOf file g)
 
 -- ---- the name of a broken condition
 -- "13. Start is broken. 14. Entry is broken. 15. Cover is broken. 16. Range is broken. 17. Step is broken. 18. Enabling is broken."

@@ -1,17 +1,17 @@
--- The edges of a readable file's diagram, with outline o, by the transition and the node that they carry.
+-- The edges of a diagram, by the transition and the node that they carry.
 use mathlib.Core.Bool.{Bool, _&&_}
 use mathlib.Core.List.{List}
 use Prim.Native.Nat.{ℕ}
 use lib.Dec.{eqb}
-use Rattle.parsing.specs.declared.Outline.{Outline}
-use Rattle.records.specs.Record.{fieldA, fieldB}
+use Rattle.shapes.specs.declared.Edge.{Edge}
+use Rattle.diagrams.specs.declared.Diagram.{Diagram}
+use Rattle.diagrams.specs.Diagram.{edgeOf}
 use Rattle.truths.specs.Search.{any}
-use Rattle.reading.specs.Edge.{double}
 
--- the edge at record e is one of transition t from node n: "an edge so labelled from it"
-unfoldable pub carries : List ℕ → ℕ → ℕ → ℕ → Bool
-carries file n t e = eqb (fieldB file e) n && eqb (fieldA file e) t
+-- the edge is one of transition t from node n: "an edge so labelled from it"
+unfoldable pub carries : ℕ → ℕ → Edge → Bool
+carries n t e = eqb (e .from) n && eqb (e .transition) t
 
 -- t leaves node n "by double edges"; only a chain has them
-unfoldable pub isDouble : List ℕ → Outline → ℕ → ℕ → Bool
-isDouble file o n t = any (λ e. carries file n t e && double file e) (o .edges) (o .edge)
+unfoldable pub isDouble : List ℕ → Diagram → ℕ → ℕ → Bool
+isDouble file g n t = any (λ e. carries n t (edgeOf file g e) && edgeOf file g e .double) (g .edges) 0

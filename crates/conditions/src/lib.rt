@@ -1,13 +1,12 @@
 // The verification conditions of a diagram: how many there are, and the condition of a number.
-use parsing::Outline;
-use reading::edges::double_from;
-use records::byte_at;
+use diagrams::Diagram;
+use diagrams::edge_of;
+use shapes::property_of;
 ghost use mathlib.Core.Path.{_≡_};
-ghost use Prim.Native.Nat.{_<_};
-ghost use Rattle.reading.specs.declared.Reading.{Reading};
-ghost use Rattle.reading.specs.Read.{readOf};
-ghost use Rattle.conditions.specs.Condition.{totalOf, conditionAt};
-ghost use Rattle.conditions.specs.Layout.{doubleOf, layoutOf, openingOf, pairOf};
+ghost use Prim.Native.Nat.{_≤_, _<_};
+ghost use Rattle.diagrams.specs.Diagram.{Loaded};
+ghost use Rattle.conditions.specs.Condition.{openingOf, totalOf, conditionAt, refusalNumber, nodeNumber, transitionNumber};
+ghost use Rattle.conditions.specs.Layout.{doubleOf, layoutOf, pairOf};
 
 // A condition, by its node and its transition.
 pub enum Condition {
@@ -26,68 +25,65 @@ pub struct Blocks {
     pub size: usize,
 }
 
-pub fn layout(file: &[u8], outline: Outline) -> Blocks
-    requires { ⌜ readOf (now file) ≡ Reading.Readable outline ⌝ }
-    ensures { λ r. ⌜ r ≡ layoutOf (now (file .entry)) outline ⌝ }
+fn layout(diagram: Diagram) -> Blocks
+    requires { ⌜ diagram .transitions ≤ 32 ⌝ }
+    ensures { λ r. ⌜ r ≡ layoutOf diagram ⌝ }
 {
-    let kind = byte_at(file, 8 * outline.property + 1);
-    let moves = 2 * outline.transitions;
-    if kind == 1 {
-        return Blocks {
-            covers: outline.nodes,
-            from: 0,
-            size: moves,
-        };
+    let claim = diagram.claim;
+    let property = property_of(claim);
+    let mut covers: usize = 1;
+    if property.covered {
+        covers = diagram.nodes;
     }
-    if kind == 2 {
-        return Blocks {
-            covers: outline.nodes,
-            from: 1,
-            size: moves,
-        };
+    let mut size = 2 * diagram.transitions;
+    if property.doubles {
+        size += 1;
     }
     Blocks {
-        covers: 1,
-        from: 1,
-        size: moves + 1,
+        covers,
+        from: property.from,
+        size,
     }
 }
 
-// How many conditions a readable file's diagram has.
-pub fn total(file: &[u8], outline: Outline) -> usize
-    requires { ⌜ readOf (now file) ≡ Reading.Readable outline ⌝ }
-    ensures { λ r. ⌜ r ≡ totalOf (now (file .entry)) outline ⌝ }
+// How many conditions a diagram has.
+pub fn total(file: &[u8], diagram: Diagram) -> usize
+    requires { ⌜ Loaded (now file) diagram ⌝ }
+    ensures { λ r. ⌜ r ≡ totalOf (now (file .entry)) diagram ⌝ }
 {
-    let l = layout(file, outline);
-    let nodes = outline.nodes - l.from;
+    let l = layout(diagram);
+    let nodes = diagram.nodes - l.from;
     1 + l.covers + nodes * l.size
 }
 
-// The transition of the node's double edges, or one past the file's transitions where it has none.
-pub fn double_of(file: &[u8], outline: Outline, node: usize) -> usize
-    requires { ⌜ readOf (now file) ≡ Reading.Readable outline ⌝ }
-    ensures { λ r. ⌜ r ≡ doubleOf (now (file .entry)) outline node ⌝ }
+// The transition of the node's double edges, or one past the transitions where it has none.
+pub fn double_of(file: &[u8], diagram: Diagram, node: usize) -> usize
+    requires { ⌜ Loaded (now file) diagram ⌝ }
+    ensures { λ r. ⌜ r ≡ doubleOf (now (file .entry)) diagram node ⌝ }
 {
     let mut e: usize = 0;
-    while e < outline.edges {
-        let at = outline.edge + e;
-        if double_from(file, at, node) {
-            return byte_at(file, 8 * at + 1) as usize;
+    while e < diagram.edges {
+        let edge = edge_of(file, diagram, e);
+        if edge.double {
+            if edge.from == node {
+                return edge.transition;
+            }
         }
         e += 1;
     }
-    outline.transitions
+    diagram.transitions
 }
 
-// The first condition: start in an invariance diagram, entry in another.
-fn opening(file: &[u8], outline: Outline) -> Condition
-    requires { ⌜ readOf (now file) ≡ Reading.Readable outline ⌝ }
-    ensures { λ r. ⌜ r ≡ openingOf (now (file .entry)) outline ⌝ }
+// The first condition.
+fn opening(diagram: Diagram) -> Condition
+    ensures { λ r. ⌜ r ≡ openingOf diagram ⌝ }
 {
-    if byte_at(file, 8 * outline.property + 1) == 1 {
-        Condition::Start
-    } else {
+    let claim = diagram.claim;
+    let property = property_of(claim);
+    if property.entry {
         Condition::Entry
+    } else {
+        Condition::Start
     }
 }
 
@@ -103,22 +99,22 @@ fn pair(node: usize, k: usize) -> Condition
 }
 
 // The condition of a number.
-pub fn condition_at(file: &[u8], outline: Outline, number: usize) -> Condition
-    requires readable { ⌜ readOf (now file) ≡ Reading.Readable outline ⌝ }
-    requires below { ⌜ number < totalOf (now file) outline ⌝ }
-    ensures { λ r. ⌜ r ≡ conditionAt (now (file .entry)) outline number ⌝ }
+pub fn condition_at(file: &[u8], diagram: Diagram, number: usize) -> Condition
+    requires loaded { ⌜ Loaded (now file) diagram ⌝ }
+    requires below { ⌜ number < totalOf (now file) diagram ⌝ }
+    ensures { λ r. ⌜ r ≡ conditionAt (now (file .entry)) diagram number ⌝ }
 {
     if number == 0 {
-        return opening(file, outline);
+        return opening(diagram);
     }
-    let l = layout(file, outline);
+    let l = layout(diagram);
     if number <= l.covers {
         return Condition::Cover(number - 1);
     }
     let rest = number - 1 - l.covers;
     let node = rest / l.size + l.from;
     let k = rest % l.size;
-    let double = double_of(file, outline, node);
+    let double = double_of(file, diagram, node);
     let enabling = 2 * double + 2;
     if k == enabling {
         return Condition::Enabling(node, double);
@@ -127,4 +123,46 @@ pub fn condition_at(file: &[u8], outline: Outline, number: usize) -> Condition
         return pair(node, k);
     }
     pair(node, k - 1)
+}
+
+// How a broken condition is named: the number of its refusal, its node and its transition, 255 where it has none.
+pub fn refusal_number(condition: Condition) -> u8
+    ensures { λ r. ⌜ r ≡ refusalNumber condition ⌝ }
+{
+    match condition {
+        Condition::Start => 13,
+        Condition::Entry => 14,
+        Condition::Cover(_) => 15,
+        Condition::Range(_, _) => 16,
+        Condition::Step(_, _) => 17,
+        Condition::Enabling(_, _) => 18,
+    }
+}
+
+pub fn node_number(condition: Condition) -> u8
+    requires { ⌜ nodeNumber condition ≤ 255 ⌝ }
+    ensures { λ r. ⌜ r ≡ nodeNumber condition ⌝ }
+{
+    match condition {
+        Condition::Start => 255,
+        Condition::Entry => 255,
+        Condition::Cover(n) => n as u8,
+        Condition::Range(n, _) => n as u8,
+        Condition::Step(n, _) => n as u8,
+        Condition::Enabling(n, _) => n as u8,
+    }
+}
+
+pub fn transition_number(condition: Condition) -> u8
+    requires { ⌜ transitionNumber condition ≤ 255 ⌝ }
+    ensures { λ r. ⌜ r ≡ transitionNumber condition ⌝ }
+{
+    match condition {
+        Condition::Start => 255,
+        Condition::Entry => 255,
+        Condition::Cover(_) => 255,
+        Condition::Range(_, t) => t as u8,
+        Condition::Step(_, t) => t as u8,
+        Condition::Enabling(_, t) => t as u8,
+    }
 }

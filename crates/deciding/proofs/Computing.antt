@@ -6,7 +6,8 @@ use Rattle.states.specs.Number
 use Rattle.conditions.specs.Edges
 use Rattle.conditions.specs.Condition
 use Rattle.testing.specs.Holding
-use Rattle.testing.proofs.Computing.{computing}
+use Rattle.diagrams.proofs.Computing.{computing}
+use Rattle.diagrams.specs.System
 use Rattle.verdicts.specs.Verdict
 use Rattle.deciding.specs.Decision
 
@@ -14,10 +15,10 @@ use Rattle.deciding.specs.Decision
 unfoldable pub deciding : Unit {0}
 unfolding computing Number.countOf Number.stateOf Number.numberOf
     Search.firstFailingFrom Search.firstFailing Edges.carries Edges.isDouble
-    Condition.each Condition.movesOf Condition.conditionsFrom Condition.conditionsOf Condition.totalOf Condition.conditionAt
+    Condition.each Condition.movesOf Condition.openingOf Condition.coveredOf Condition.conditionsOf Condition.totalOf Condition.conditionAt
     Condition.refusalNumber Condition.nodeNumber Condition.transitionNumber
-    Truth.implies Holding.isEnabled Holding.someNode Holding.someTarget Holding.conditionHolds
+    Truth.implies System.isEnabled Holding.someNode Holding.someTarget Holding.stepLeads Holding.conditionHolds
     Verdict.stateCount Verdict.stateAt Verdict.stateNumber Verdict.breakingOf Verdict.isTrue Verdict.brokenOf
-    Verdict.brokenAt Verdict.testsOf Verdict.judgedOf Verdict.verdictBy Verdict.checkOf
+    Verdict.brokenAt Verdict.testsOf Verdict.judgedOf Verdict.verdictBy Verdict.verdictOf Verdict.checkOf
     Decision.upToFailing Decision.testsInOrder Decision.testsMade
 deciding = tt

@@ -11,11 +11,15 @@ use Prim.Native.Nat.{ℕ}
 use native.Mathlib.Omega.{arith}
 use lib.Dec.{lit≤}
 use lib.ListN.{set}
-use Rattle.parsing.specs.declared.Outline.{Outline}
-use Rattle.reading.proofs.Files.{A, B, constant, plain, true}
+use Rattle.diagrams.specs.declared.Diagram.{Diagram}
+use Rattle.shapes.specs.declared.Outline.{Outline}
+use Rattle.diagrams.specs.declared.Found.{Found}
+use Rattle.diagrams.specs.Diagram.{foundOf, diagramOf, Loaded}
+use Rattle.diagrams.proofs.Laws.Diagram.{diagram-loaded}
+use Rattle.diagrams.proofs.Files.{A, B, constant, plain, true}
 use Rattle.conditions.specs.Condition.{conditionAt, refusalNumber, nodeNumber, transitionNumber}
 use Rattle.conditions.specs.declared.Condition.the-variants.{Start}
-use Rattle.testing.proofs.Values.{v, state}
+use Rattle.diagrams.proofs.Values.{v, state}
 use Rattle.report.specs.declared.Verdict.{Verdict}
 use Rattle.deciding.specs.Decision.{Names, Judges}
 use Rattle.deciding.proofs.Computing.{deciding}
@@ -25,6 +29,12 @@ use Rattle.deciding.proofs.Laws.Decision.{judges, accepted, named-once}
 abbrev outline : Outline
 outline = record { vars = 1; transition = 5; transitions = 1; property = 13; node = 17; nodes = 1; edge = 21; edges = 0 }
 
+abbrev diagram : List ℕ → Diagram
+diagram file = diagramOf file outline
+
+loaded : (file : List ℕ) → foundOf file ≡ Found.Diagram outline → Loaded file (diagram file)
+loaded file e = diagram-loaded file outline e
+
 -- ---- refused
 -- start (condition 0) is broken at v = 1 and v = 2, step (condition 3) at v = 0
 abbrev several : List ℕ
@@ -33,33 +43,33 @@ several = flatten (set (set (set (set (set B 2 (plain 0x26)) 3 true) 4 true) 18 
 abbrev right : Verdict
 right = record { number = 13; node = 255; transition = 255; at = 0; values = v 1; tests = 2 }
 
-pub refused-one : (w : Verdict) → Judges several outline w → w ≡ right
+pub refused-one : (w : Verdict) → Judges several (diagram several) w → w ≡ right
 unfolding deciding
 refused-one w j = λ i. record { number = number i; node = node i; transition = transition i; at = same .0 i; values = same .1 i; tests = j .tests i }
   where
-    names : Names several outline w
+    names : Names several (diagram several) w
     names = j .names (λ e. false≢true (j .accepts .0 e Start (List·Memᴰ·head refl) (v 1) (state (lit≤ tt))))
 
-    right-names : Names several outline right
-    right-names = judges several outline refl .names (λ e. omega arith)
+    right-names : Names several (diagram several) right
+    right-names = judges several (diagram several) (loaded several refl) .names (λ e. omega arith)
 
     same : (w .at ≡ 0) × (w .values ≡ v 1)
-    same = named-once several outline refl names right-names
+    same = named-once several (diagram several) (loaded several refl) names right-names
 
     number : w .number ≡ 13
-    number = names .number ∙ ap (λ (k : ℕ). refusalNumber (conditionAt several outline k)) (same .0)
+    number = names .number ∙ ap (λ (k : ℕ). refusalNumber (conditionAt several (diagram several) k)) (same .0)
 
     node : w .node ≡ 255
-    node = names .node ∙ ap (λ (k : ℕ). nodeNumber (conditionAt several outline k)) (same .0)
+    node = names .node ∙ ap (λ (k : ℕ). nodeNumber (conditionAt several (diagram several) k)) (same .0)
 
     transition : w .transition ≡ 255
-    transition = names .transition ∙ ap (λ (k : ℕ). transitionNumber (conditionAt several outline k)) (same .0)
+    transition = names .transition ∙ ap (λ (k : ℕ). transitionNumber (conditionAt several (diagram several) k)) (same .0)
 
-pub counted : (w : Verdict) → Judges (flatten A) outline w → w .tests ≡ 11
+pub counted : (w : Verdict) → Judges (flatten A) (diagram (flatten A)) w → w .tests ≡ 11
 unfolding deciding
 counted w j = j .tests
 
 -- ---- accepted
-pub accepted-one : (w : Verdict) → Judges (flatten B) outline w → (w .number ≡ 0) × (w .tests ≡ 12)
+pub accepted-one : (w : Verdict) → Judges (flatten B) (diagram (flatten B)) w → (w .number ≡ 0) × (w .tests ≡ 12)
 unfolding deciding
-accepted-one w j = (j .accepts .1 (accepted (flatten B) outline refl refl), j .tests)
+accepted-one w j = (j .accepts .1 (accepted (flatten B) (diagram (flatten B)) (loaded (flatten B) refl) refl), j .tests)

@@ -1,4 +1,4 @@
--- Demand 2, in its own words, of the verdict on a readable file with outline o; and, of document 02, item 2: the state named is the lowest-numbered,
+-- Demand 2, in its own words, of the verdict on a readable file with diagram g; and, of document 02, item 2: the state named is the lowest-numbered,
 -- and the tests made are those of a walk, condition by condition and state by state, up to the first that fails.
 use mathlib.Core.Path.{_≡_}
 use mathlib.Core.Logic.{_↔_}
@@ -7,10 +7,8 @@ use mathlib.Core.List.{List, [], _∷_}
 use Prim.Native.Nat.{ℕ, _<_, _≤_}
 use lib.ListN.{length}
 use lib.IntN.{ℤ}
-use Rattle.parsing.specs.declared.Outline.{Outline}
-use Rattle.reading.specs.declared.Reading.{Reading}
-use Rattle.reading.specs.Read.{readOf}
-use Rattle.states.specs.State.{State}
+use Rattle.diagrams.specs.declared.Diagram.{Diagram}
+use Rattle.diagrams.specs.Diagram.{Readable, State}
 use Rattle.conditions.specs.Condition.{each, totalOf, conditionAt, Listed, refusalNumber, nodeNumber, transitionNumber}
 use Rattle.conditions.specs.declared.Condition.{Condition}
 use Rattle.testing.specs.Holding.{conditionHolds}
@@ -18,20 +16,20 @@ use Rattle.report.specs.declared.Verdict.{Verdict}
 use Rattle.verdicts.specs.Verdict.{stateCount, stateAt, stateNumber}
 
 -- a condition is true at every state in the ranges: whatever values a state has
-abbrev pub Everywhere : List ℕ → Outline → Condition → Type 0
-Everywhere file o c = (state : List ℤ) → State file (o .vars) state → conditionHolds file o c state ≡ true
+abbrev pub Everywhere : List ℕ → Diagram → Condition → Type 0
+Everywhere file g c = (state : List ℤ) → State g state → conditionHolds file g c state ≡ true
 
 -- the verdict names the first untrue condition with a state that breaks it; every state with a lower number passes
-pub record Names (file : List ℕ) (o : Outline) (v : Verdict) : Type 0 where
-  pub below : v .at < totalOf file o
-  pub number : v .number ≡ refusalNumber (conditionAt file o (v .at))
-  pub node : v .node ≡ nodeNumber (conditionAt file o (v .at))
-  pub transition : v .transition ≡ transitionNumber (conditionAt file o (v .at))
-  pub first : (k : ℕ) → k < v .at → Everywhere file o (conditionAt file o k)
-  pub state : State file (o .vars) (v .values)
-  pub breaks : conditionHolds file o (conditionAt file o (v .at)) (v .values) ≡ false
-  pub lowest : (s : List ℤ) → State file (o .vars) s → stateNumber file o s < stateNumber file o (v .values)
-      → conditionHolds file o (conditionAt file o (v .at)) s ≡ true
+pub record Names (file : List ℕ) (g : Diagram) (v : Verdict) : Type 0 where
+  pub below : v .at < totalOf file g
+  pub number : v .number ≡ refusalNumber (conditionAt file g (v .at))
+  pub node : v .node ≡ nodeNumber (conditionAt file g (v .at))
+  pub transition : v .transition ≡ transitionNumber (conditionAt file g (v .at))
+  pub first : (k : ℕ) → k < v .at → Everywhere file g (conditionAt file g k)
+  pub state : State g (v .values)
+  pub breaks : conditionHolds file g (conditionAt file g (v .at)) (v .values) ≡ false
+  pub lowest : (s : List ℤ) → State g s → stateNumber g s < stateNumber g (v .values)
+      → conditionHolds file g (conditionAt file g (v .at)) s ≡ true
 
 -- ---- the tests made
 -- a list up to the first element that fails the test, which is then its last
@@ -44,18 +42,18 @@ unfoldable pub testsInOrder : ℕ → ℕ → List (ℕ × ℕ)
 testsInOrder total states = each (λ c. each (λ n. (c, n) ∷ []) states 0) total 0
 
 -- those that are made
-unfoldable pub testsMade : List ℕ → Outline → List (ℕ × ℕ)
-testsMade file o =
-    upToFailing (λ (test : ℕ × ℕ). conditionHolds file o (conditionAt file o (test .0)) (stateAt file o (test .1)))
-    (testsInOrder (totalOf file o) (stateCount file o))
+unfoldable pub testsMade : List ℕ → Diagram → List (ℕ × ℕ)
+testsMade file g =
+    upToFailing (λ (test : ℕ × ℕ). conditionHolds file g (conditionAt file g (test .0)) (stateAt g (test .1)))
+    (testsInOrder (totalOf file g) (stateCount g))
 
 -- ---- the verdict
 -- accepted exactly when every condition is true at every state; otherwise the first untrue one is named
-pub record Judges (file : List ℕ) (o : Outline) (v : Verdict) : Type 0 where
-  pub accepts : (v .number ≡ 0) ↔ ((c : Condition) → Listed file o c → Everywhere file o c)
-  pub names : (v .number ≡ 0 → ⊥) → Names file o v
-  pub tests : v .tests ≡ length (testsMade file o)
+pub record Judges (file : List ℕ) (g : Diagram) (v : Verdict) : Type 0 where
+  pub accepts : (v .number ≡ 0) ↔ ((c : Condition) → Listed file g c → Everywhere file g c)
+  pub names : (v .number ≡ 0 → ⊥) → Names file g v
+  pub tests : v .tests ≡ length (testsMade file g)
 
 -- of any file, and a report buffer of `room` bytes
 abbrev pub Decides : List ℕ → ℕ → Verdict → Type 0
-Decides file room v = (o : Outline) → readOf file ≡ Reading.Readable o → 32 ≤ room → Judges file o v
+Decides file room v = (g : Diagram) → Readable file g → 32 ≤ room → Judges file g v

@@ -12,14 +12,14 @@ use Rattle.integers.specs.Tests
 use Rattle.records.specs.Record
 use Rattle.records.specs.Kind
 use Rattle.records.specs.Walk
-use Rattle.records.specs.Table
+use Rattle.truths.specs.Table
 use Rattle.intervals.specs.Interval
 use Rattle.reading.proofs.Files
 use Rattle.reading.proofs.Files.{agree, range, transition, assignment, constant, variable, plain}
 use Rattle.evaluating.specs.declared.Stepped.{Stepped}
 use Rattle.expressions.specs.Expression
-use Rattle.states.specs.State
-use Rattle.states.specs.State.{lowsOf, highsOf}
+use Rattle.ranges.specs.Range
+use Rattle.ranges.specs.Range.{lowsOf, highsOf}
 use Rattle.states.specs.Number
 use Rattle.states.specs.Number.{countOf, stateOf, numberOf, advanceOf}
 use Rattle.evaluating.specs.Transition
@@ -294,7 +294,7 @@ abbrev rangesOf : List ℕ × ℕ → List ℤ × List ℤ × ℕ
 rangesOf (file, vars) = (lowsOf file vars, highsOf file vars, countOf (lowsOf file vars) (highsOf file vars))
 
 ranges-hold : Answers rangesOf ranges
-unfolding flatten Bytes.signed16 Radix.offsetOf Table.tabulate Table.tableOf State.endsOf Number.sizeOf Number.countOf
+unfolding flatten Bytes.signed16 Radix.offsetOf Table.tabulate Table.tableOf Range.endsOf Number.sizeOf Number.countOf
 ranges-hold = answers rangesOf ranges refl
 
 -- ---- states and their numbers
@@ -330,7 +330,7 @@ stateRow (file, vars, n) =
     (state, numberOf lows highs state, advanceOf lows highs state)
 
 states-hold : Answers stateRow states
-unfolding flatten Bytes.signed16 Radix.at Radix.offsetOf Table.tabulate Table.tableOf State.endsOf
+unfolding flatten Bytes.signed16 Radix.at Radix.offsetOf Table.tabulate Table.tableOf Range.endsOf
     Number.sizeOf Number.countOf Number.stateOf Number.numberOf Number.lastOf Number.advanceOf
 states-hold = answers stateRow states refl
 
@@ -375,7 +375,7 @@ stepsOf (file, vars, at, state) = (stepOf (lowsOf file vars) (highsOf file vars)
 steps-hold : Answers stepsOf steps
 unfolding flatten Bytes.signed16 Record.kindIs Kind.within Kind.formOf Kind.signatureOf Walk.spans Walk.span Table.tabulate Table.tableOf Interval.combine
     Expression.firstOperand Expression.secondOperand Expression.compareOf
-    Expression.numberBy Expression.truthBy Expression.number Expression.truth State.endsOf
+    Expression.numberBy Expression.truthBy Expression.number Expression.truth Range.endsOf
     Expression.behind Transition.assignmentAt Transition.assignmentsFrom Transition.inRangeOf Transition.allInRange Transition.assigned
     Transition.guardOf Transition.assignmentList Transition.enabledOf Transition.successorOf Transition.stepOf
 steps-hold = answers stepsOf steps refl

@@ -14,7 +14,7 @@ use Rattle.records.specs.declared.kinds.Form.{Form}
 use Rattle.records.specs.declared.kinds.Form.the-variants.{Constant, Variable, Arithmetic, Indicator, Literal, Negation, Connective, Comparison, Unfit}
 use Rattle.records.specs.Record.{kindAt, fieldA, valueB}
 use Rattle.records.specs.Kind.{formAt, signatureAt}
-use Rattle.records.specs.Kind.{number as numberSort}
+use Rattle.records.specs.Kind.{number as numberSort, truth as truthSort}
 use Rattle.records.specs.Walk.{span}
 use Rattle.intervals.specs.Interval.{combine}
 
@@ -88,18 +88,23 @@ pub record RecordFits (want : ℕ) (part : List ℕ) : Type 0 where
   pub sort : signatureAt part 0 .sort ≡ want
   pub variable : formAt part 0 ≡ Variable → fieldA part 0 < 12
 
--- as many operands as the kind says, where F says of an operand's part that it fits
-unfoldable pub OperandsFit : (List ℕ → Type 0) → ℕ → List ℕ → ℕ → Type 0
-OperandsFit F levels part zero = Unit {0}
-OperandsFit F levels part (suc zero) = F (firstOperand part)
-OperandsFit F levels part (suc (suc n)) = F (firstOperand part) × F (secondOperand levels part)
+-- as many operands as the kind says, the first of sort a and the second of sort b, where F says by the sort of an operand's part that it fits
+unfoldable pub OperandsFit : (ℕ → List ℕ → Type 0) → ℕ → List ℕ → ℕ → ℕ → ℕ → Type 0
+OperandsFit F levels part a b zero = Unit {0}
+OperandsFit F levels part a b (suc zero) = F a (firstOperand part)
+OperandsFit F levels part a b (suc (suc n)) = F a (firstOperand part) × F b (secondOperand levels part)
 
 unfoldable pub Fits : ℕ → ℕ → List ℕ → List ℤ → Type 0
 Fits zero want part state = ⊥
 Fits (suc levels) want part state =
+    let s = signatureAt part 0 in
     RecordFits want part
     × (want ≡ numberSort → In (number (suc levels) part state) bounds)
-    × OperandsFit (λ p. Fits levels (signatureAt part 0 .over) p state) levels part (signatureAt part 0 .operands)
+    × OperandsFit (λ sort p. Fits levels sort p state) levels part (s .first) (s .second) (s .operands)
+
+-- a truth expression of a file, from its first record on
+abbrev pub TruthFits : List ℕ → ℕ → List ℤ → Type 0
+TruthFits file at state = Fits 16 truthSort (partAt file at) state
 
 -- ---- a table of 4096 entries: how many records each expression of a part has, by the record that it begins at
 -- the entry of a record with so many operands, by the entries behind it: the first operand begins behind the record, the second behind the first

@@ -2,3 +2,6 @@
 pub mod Interval
 pub mod Expression
 pub mod Scan
+pub mod Combine
+pub mod Outside
+pub mod Local

@@ -21,10 +21,10 @@ pub record Expression (file : List ℕ) (vars levels want at end : ℕ) (i : Int
 -- its operands, by how many there are, one level further in, and its interval by theirs
 pub data Operands (file : List ℕ) (vars levels at end : ℕ) : Interval → Type 0 where
   none : signatureAt file at .operands ≡ 0 → end ≡ at + 1 → Operands file vars levels at end (leafOf file at (formAt file at))
-  one : {j : Interval} → signatureAt file at .operands ≡ 1 → Expression file vars levels (signatureAt file at .over) (at + 1) end j
+  one : {j : Interval} → signatureAt file at .operands ≡ 1 → Expression file vars levels (signatureAt file at .first) (at + 1) end j
       → Operands file vars levels at end unit
-  two : {mid : ℕ} {j k : Interval} → signatureAt file at .operands ≡ 2 → Expression file vars levels (signatureAt file at .over) (at + 1) mid j
-      → Expression file vars levels (signatureAt file at .over) mid end k → Operands file vars levels at end (joinOf (kindAt file at) (formAt file at) j k)
+  two : {mid : ℕ} {j k : Interval} → signatureAt file at .operands ≡ 2 → Expression file vars levels (signatureAt file at .first) (at + 1) mid j
+      → Expression file vars levels (signatureAt file at .second) mid end k → Operands file vars levels at end (joinOf (kindAt file at) (formAt file at) j k)
 
 -- its own record, which if it is a variable is one of the file's, and its operands
 pub record Opened (file : List ℕ) (vars levels want at end : ℕ) (i : Interval) : Type 0 where

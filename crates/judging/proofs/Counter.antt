@@ -5,21 +5,22 @@ use mathlib.Core.Bool.{not}
 use mathlib.Core.List.{List, flatten}
 use Prim.Native.Nat.{ℕ, _≤_}
 use lib.Dec.{T}
-use Rattle.parsing.specs.declared.Outline.{Outline}
-use Rattle.reading.proofs.Files.{B, D, H}
-use Rattle.states.specs.State.{State}
+use Rattle.diagrams.specs.declared.Diagram.{Diagram}
+use Rattle.diagrams.proofs.Files.{B, D, H}
+use Rattle.shapes.specs.declared.Outline.{Outline}
+use Rattle.diagrams.specs.Diagram.{diagramOf, State}
 use Rattle.runs.specs.Run.{enabled, Successor}
 use Rattle.soundness.specs.System.{systemOf}
-use Rattle.testing.proofs.Computing.{computing}
-use Rattle.testing.proofs.Values.{v, state}
+use Rattle.diagrams.proofs.Computing.{computing}
+use Rattle.diagrams.proofs.Values.{v, state}
 
 -- B, D and H have one variable v in 0..2 and one step, v becomes v + 1 where v is less than 2
-pub record Counter (file : List ℕ) (o : Outline) : Type 0 where
-  pub states : {n : ℕ} → n ≤ 2 → State file (o .vars) (v n)
-  pub transitions : o .transitions ≡ 1
-  pub zero-on : Successor (systemOf file o) 0 (v 0) (v 1)
-  pub one-on : Successor (systemOf file o) 0 (v 1) (v 2)
-  pub two-off : T (not (enabled (systemOf file o) 0 (v 2)))
+pub record Counter (file : List ℕ) (g : Diagram) : Type 0 where
+  pub states : {n : ℕ} → n ≤ 2 → State g (v n)
+  pub transitions : g .transitions ≡ 1
+  pub zero-on : Successor (systemOf file g) 0 (v 0) (v 1)
+  pub one-on : Successor (systemOf file g) 0 (v 1) (v 2)
+  pub two-off : T (not (enabled (systemOf file g) 0 (v 2)))
 
 abbrev pub b : List ℕ
 b = flatten B
@@ -27,11 +28,17 @@ b = flatten B
 abbrev pub oB : Outline
 oB = record { vars = 1; transition = 5; transitions = 1; property = 13; node = 17; nodes = 1; edge = 21; edges = 0 }
 
+abbrev pub gB : Diagram
+gB = diagramOf b oB
+
 abbrev pub d : List ℕ
 d = flatten D
 
 abbrev pub oD : Outline
 oD = record { vars = 1; transition = 5; transitions = 1; property = 13; node = 18; nodes = 3; edge = 30; edges = 2 }
+
+abbrev pub gD : Diagram
+gD = diagramOf d oD
 
 abbrev pub h : List ℕ
 h = flatten H
@@ -39,14 +46,17 @@ h = flatten H
 abbrev pub oH : Outline
 oH = record { vars = 1; transition = 5; transitions = 1; property = 13; node = 26; nodes = 3; edge = 38; edges = 2 }
 
-pub B-counts : Counter b oB
+abbrev pub gH : Diagram
+gH = diagramOf h oH
+
+pub B-counts : Counter b gB
 unfolding computing
 B-counts = record { states = state; transitions = refl; zero-on = (tt, refl); one-on = (tt, refl); two-off = tt }
 
-pub D-counts : Counter d oD
+pub D-counts : Counter d gD
 unfolding computing
 D-counts = record { states = state; transitions = refl; zero-on = (tt, refl); one-on = (tt, refl); two-off = tt }
 
-pub H-counts : Counter h oH
+pub H-counts : Counter h gH
 unfolding computing
 H-counts = record { states = state; transitions = refl; zero-on = (tt, refl); one-on = (tt, refl); two-off = tt }

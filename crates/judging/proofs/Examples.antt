@@ -6,9 +6,9 @@ use mathlib.Core.Path.{_≡_, refl}
 use mathlib.Core.List.{List, [], _∷_, _++_, map, flatten, List·Memᴰ}
 use Prim.Native.Nat.{ℕ}
 use lib.ListN.{length, take, drop, set, replicate}
-use Rattle.reading.specs.declared.Reading.{Reading}
-use Rattle.reading.specs.Read.{readOf}
-use Rattle.reading.proofs.Files.{agree, bytes, range, single, constant, variable, plain, true, A, B, C, D, E, F, G, H, I, J}
+use Rattle.diagrams.specs.declared.Found.{Found}
+use Rattle.diagrams.specs.Diagram.{foundOf, diagramOf}
+use Rattle.diagrams.proofs.Files.{agree, bytes, range, single, constant, variable, plain, true, A, B, C, D, E, F, G, H, I, J}
 use Rattle.conditions.specs.Condition.{conditionsOf}
 use Rattle.verdicts.specs.Verdict
 use Rattle.verdicts.specs.Verdict.{checkOf, singleOf}
@@ -76,9 +76,9 @@ abbrev table : List Row
 table = marked ++ broken
 
 -- ---- lists of conditions
-abbrev listed : List ℕ → Reading → List Condition
-listed file (Reading.Readable o) = conditionsOf file o
-listed file (Reading.Refused number place) = []
+abbrev listed : List ℕ → Found → List Condition
+listed file (Found.Diagram o) = conditionsOf file (diagramOf file o)
+listed file (Found.Refused number place) = []
 
 abbrev Listing : Type 0
 Listing = List (List ℕ) × List Condition
@@ -97,7 +97,7 @@ lists =
     []
 
 abbrev listedBy : List (List ℕ) → List Condition
-listedBy file = listed (flatten file) (readOf (flatten file))
+listedBy file = listed (flatten file) (foundOf (flatten file))
 
 -- ---- single tests: a file, a condition's number and a state's
 abbrev Question : Type 0

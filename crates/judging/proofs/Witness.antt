@@ -14,18 +14,18 @@ use native.Mathlib.Nat.{add-zero}
 use native.Mathlib.Omega.{arith}
 use lib.Dec.{T, lit<, lit≤}
 use lib.IntN.{ℤ}
-use Rattle.parsing.specs.declared.Outline.{Outline}
-use Rattle.reading.specs.declared.Reading.{Reading}
-use Rattle.reading.specs.Edge.{diagram}
-use Rattle.reading.specs.Read.{readOf}
-use Rattle.states.specs.State.{State}
-use Rattle.testing.specs.Diagram.{startHolds, pHolds, qHolds}
+use Rattle.diagrams.specs.declared.Diagram.{Diagram}
+use Rattle.shapes.specs.declared.Claim.{Claim}
+use Rattle.shapes.specs.declared.Outline.{Outline}
+use Rattle.diagrams.specs.declared.Found.{Found}
+use Rattle.diagrams.specs.Diagram.{foundOf, diagramOf, State}
+use Rattle.diagrams.specs.Truth.{startHolds, pHolds, qHolds}
 use Rattle.verdicts.specs.Verdict.{checkOf}
 use Rattle.runs.specs.Run.{Run, finite, endless, Position, at, Next, IsRun, DisabledOrTaken, Just, KJust}
 use Rattle.runs.specs.Claim.{Waiting}
 use Rattle.soundness.specs.System.{systemOf}
-use Rattle.testing.proofs.Values.{v}
-use Rattle.judging.proofs.Counter.{Counter, b, oB, d, oD, h, oH, B-counts, D-counts, H-counts}
+use Rattle.diagrams.proofs.Values.{v}
+use Rattle.judging.proofs.Counter.{Counter, b, oB, gB, d, oD, gD, h, oH, gH, B-counts, D-counts, H-counts}
 use Rattle.judging.proofs.Examples.{reporting}
 
 -- ---- runs of the counter: 0 0 1 1 2, and then 2 for ever or to the end
@@ -53,35 +53,35 @@ Moves r = (n : ℕ) × Position r (suc n) × (at r (suc n) ≡ at r n → ⊥)
 apart : {m n : ℕ} → m < n → v n ≡ v m → ⊥
 apart {m} {n} l e = let z : _≡_ {A = ℕ} n m = cc in absurd (omega arith)
 
-module _ (file : List ℕ) (o : Outline) (c : Counter file o) where
-  first-move : Next (systemOf file o) (v 0) (v 1)
+module _ (file : List ℕ) (g : Diagram) (c : Counter file g) where
+  first-move : Next (systemOf file g) (v 0) (v 1)
   first-move = inr (0, rw (c .transitions) (omega arith), c .zero-on)
 
-  second-move : Next (systemOf file o) (v 1) (v 2)
+  second-move : Next (systemOf file g) (v 1) (v 2)
   second-move = inr (0, rw (c .transitions) (omega arith), c .one-on)
 
-  σ-run : IsRun (systemOf file o) (endless σ)
+  σ-run : IsRun (systemOf file g) (endless σ)
   unfolding σ
   σ-run = record { states = states; steps = steps }
     where
-      states : (n : ℕ) → Position (endless σ) n → State file (o .vars) (σ n)
+      states : (n : ℕ) → Position (endless σ) n → State g (σ n)
       states zero p = c .states (lit≤ tt)
       states (suc zero) p = c .states (lit≤ tt)
       states (suc (suc zero)) p = c .states (lit≤ tt)
       states (suc (suc (suc zero))) p = c .states (lit≤ tt)
       states (suc (suc (suc (suc n)))) p = c .states (lit≤ tt)
 
-      steps : (n : ℕ) → Position (endless σ) (suc n) → Next (systemOf file o) (σ n) (σ (suc n))
+      steps : (n : ℕ) → Position (endless σ) (suc n) → Next (systemOf file g) (σ n) (σ (suc n))
       steps zero p = inl refl
       steps (suc zero) p = first-move
       steps (suc (suc zero)) p = inl refl
       steps (suc (suc (suc zero))) p = second-move
       steps (suc (suc (suc (suc n)))) p = inl refl
 
-  listed-run : IsRun (systemOf file o) listed
+  listed-run : IsRun (systemOf file g) listed
   listed-run = record { states = states; steps = steps }
     where
-      states : (n : ℕ) → Position listed n → State file (o .vars) (at listed n)
+      states : (n : ℕ) → Position listed n → State g (at listed n)
       states zero p = c .states (lit≤ tt)
       states (suc zero) p = c .states (lit≤ tt)
       states (suc (suc zero)) p = c .states (lit≤ tt)
@@ -89,7 +89,7 @@ module _ (file : List ℕ) (o : Outline) (c : Counter file o) where
       states (suc (suc (suc (suc zero)))) p = c .states (lit≤ tt)
       states (suc (suc (suc (suc (suc n))))) p = absurd (omega arith)
 
-      steps : (n : ℕ) → Position listed (suc n) → Next (systemOf file o) (at listed n) (at listed (suc n))
+      steps : (n : ℕ) → Position listed (suc n) → Next (systemOf file g) (at listed n) (at listed (suc n))
       steps zero p = inl refl
       steps (suc zero) p = first-move
       steps (suc (suc zero)) p = inl refl
@@ -97,7 +97,7 @@ module _ (file : List ℕ) (o : Outline) (c : Counter file o) where
       steps (suc (suc (suc (suc n)))) p = absurd (omega arith)
 
   -- among any two positions in a row the step is somewhere disabled or taken
-  taken : (t : ℕ) → t < 1 → (n : ℕ) → (j : ℕ) × (j < 2) × DisabledOrTaken (systemOf file o) t σ (n + j)
+  taken : (t : ℕ) → t < 1 → (n : ℕ) → (j : ℕ) × (j < 2) × DisabledOrTaken (systemOf file g) t σ (n + j)
   unfolding σ
   taken zero l zero = (1, omega arith, inr (c .zero-on))
   taken zero l (suc zero) = (0, omega arith, inr (c .zero-on))
@@ -107,48 +107,48 @@ module _ (file : List ℕ) (o : Outline) (c : Counter file o) where
   taken (suc t) l n = absurd (omega arith)
 
   -- from v = 1 on: 1 1 2, and then 2 for ever
-  late-run : IsRun (systemOf file o) (endless late)
+  late-run : IsRun (systemOf file g) (endless late)
   late-run = let run = σ-run in record { states = λ n p. run .states (suc (suc n)) tt; steps = λ n p. run .steps (suc (suc n)) tt }
 
-  late-taken : (t : ℕ) → t < 1 → (n : ℕ) → (j : ℕ) × (j < 2) × DisabledOrTaken (systemOf file o) t late (n + j)
+  late-taken : (t : ℕ) → t < 1 → (n : ℕ) → (j : ℕ) × (j < 2) × DisabledOrTaken (systemOf file g) t late (n + j)
   late-taken t l n =
       let x = taken t l (suc (suc n)) in
       let same : suc (suc n) + x .0 ≡ suc (suc (n + x .0)) = omega arith in
       (x .0, x .1, rw same at (x .2))
 
 -- ---- the theorems
--- the file is accepted, has this outline, and its property is of this kind
-abbrev Accepted : List ℕ → Outline → ℕ → Type 0
-Accepted file o kind = (readOf file ≡ Reading.Readable o) × (checkOf file 32 .number ≡ 0) × (diagram file o ≡ kind)
+-- the file is accepted, has this outline, and claims this
+abbrev Accepted : List ℕ → Outline → Claim → Type 0
+Accepted file o claim = (checkOf file 32 .number ≡ 0) × (foundOf file ≡ Found.Diagram o) × (diagramOf file o .claim ≡ claim)
 
-pub invariance-met : Accepted b oB 1 × IsRun (systemOf b oB) listed × T (startHolds b oB (at listed 0)) × Idles listed × Moves listed
+pub invariance-met : Accepted b oB Claim.Invariance × IsRun (systemOf b gB) listed × T (startHolds b gB (at listed 0)) × Idles listed × Moves listed
 unfolding reporting
-invariance-met = ((refl, refl, refl), listed-run b oB B-counts, tt, (0, omega arith, refl), (1, omega arith, apart (lit< tt)))
+invariance-met = ((refl, refl, refl), listed-run b gB B-counts, tt, (0, omega arith, refl), (1, omega arith, apart (lit< tt)))
 
-pub wait-for-met : Accepted h oH 2 × IsRun (systemOf h oH) (endless σ) × T (startHolds h oH (σ 0)) × T (pHolds h oH (σ 0))
-    × Waiting (qHolds h oH 0) (endless σ) 0 3 × Idles (endless σ) × Moves (endless σ)
+pub wait-for-met : Accepted h oH Claim.WaitFor × IsRun (systemOf h gH) (endless σ) × T (startHolds h gH (σ 0)) × T (pHolds h gH (σ 0))
+    × Waiting (qHolds h gH 0) (endless σ) 0 3 × Idles (endless σ) × Moves (endless σ)
 unfolding σ reporting
 wait-for-met =
-    ((refl, refl, refl), σ-run h oH H-counts, tt, tt, record { from = omega arith; position = tt; unmet = unmet }, (0, tt, refl), (1, tt, apart (lit< tt)))
+    ((refl, refl, refl), σ-run h gH H-counts, tt, tt, record { from = omega arith; position = tt; unmet = unmet }, (0, tt, refl), (1, tt, apart (lit< tt)))
   where
-    unmet : (j : ℕ) → 0 ≤ j → j ≤ 3 → T (not (qHolds h oH 0 (σ j)))
+    unmet : (j : ℕ) → 0 ≤ j → j ≤ 3 → T (not (qHolds h gH 0 (σ j)))
     unmet zero a l = tt
     unmet (suc zero) a l = tt
     unmet (suc (suc zero)) a l = tt
     unmet (suc (suc (suc zero))) a l = tt
     unmet (suc (suc (suc (suc j)))) a l = absurd (omega arith)
 
-pub chain-met : Accepted d oD 3 × IsRun (systemOf d oD) (endless σ) × T (startHolds d oD (σ 0)) × T (systemOf d oD .just 0)
-    × KJust (systemOf d oD) 2 σ × Just (systemOf d oD) σ × T (pHolds d oD (σ 0)) × Idles (endless σ) × Moves (endless σ)
-    × ((j : ℕ) → j < 4 → T (not (qHolds d oD 0 (σ j)))) × T (qHolds d oD 0 (σ 4))
+pub chain-met : Accepted d oD Claim.Chain × IsRun (systemOf d gD) (endless σ) × T (startHolds d gD (σ 0)) × T (systemOf d gD .just 0)
+    × KJust (systemOf d gD) 2 σ × Just (systemOf d gD) σ × T (pHolds d gD (σ 0)) × Idles (endless σ) × Moves (endless σ)
+    × ((j : ℕ) → j < 4 → T (not (qHolds d gD 0 (σ j)))) × T (qHolds d gD 0 (σ 4))
 unfolding σ reporting
 chain-met = (
   (refl, refl, refl),
-  σ-run d oD D-counts,
+  σ-run d gD D-counts,
   tt,
   tt,
-  (λ t l j n. taken d oD D-counts t l n),
-  (λ t l j n. let x = taken d oD D-counts t l n in (x .0, x .2)),
+  (λ t l j n. taken d gD D-counts t l n),
+  (λ t l j n. let x = taken d gD D-counts t l n in (x .0, x .2)),
   tt,
   (0, tt, refl),
   (1, tt, apart (lit< tt)),
@@ -156,23 +156,23 @@ chain-met = (
   tt,
 )
   where
-    unmet : (j : ℕ) → j < 4 → T (not (qHolds d oD 0 (σ j)))
+    unmet : (j : ℕ) → j < 4 → T (not (qHolds d gD 0 (σ j)))
     unmet zero l = tt
     unmet (suc zero) l = tt
     unmet (suc (suc zero)) l = tt
     unmet (suc (suc (suc zero))) l = tt
     unmet (suc (suc (suc (suc j)))) l = absurd (omega arith)
 
-pub chain-met-late : Accepted d oD 3 × IsRun (systemOf d oD) (endless late) × T (not (startHolds d oD (late 0))) × KJust (systemOf d oD) 2 late
-    × Just (systemOf d oD) late × T (pHolds d oD (late 0)) × Idles (endless late) × Moves (endless late)
-    × ((j : ℕ) → j < 2 → T (not (qHolds d oD 0 (late j)))) × T (qHolds d oD 0 (late 2))
+pub chain-met-late : Accepted d oD Claim.Chain × IsRun (systemOf d gD) (endless late) × T (not (startHolds d gD (late 0))) × KJust (systemOf d gD) 2 late
+    × Just (systemOf d gD) late × T (pHolds d gD (late 0)) × Idles (endless late) × Moves (endless late)
+    × ((j : ℕ) → j < 2 → T (not (qHolds d gD 0 (late j)))) × T (qHolds d gD 0 (late 2))
 unfolding σ reporting
 chain-met-late = (
   (refl, refl, refl),
-  late-run d oD D-counts,
+  late-run d gD D-counts,
   tt,
-  (λ t l j n. late-taken d oD D-counts t l n),
-  (λ t l j n. let x = late-taken d oD D-counts t l n in (x .0, x .2)),
+  (λ t l j n. late-taken d gD D-counts t l n),
+  (λ t l j n. let x = late-taken d gD D-counts t l n in (x .0, x .2)),
   tt,
   (0, tt, refl),
   (1, tt, apart (lit< tt)),
@@ -180,7 +180,7 @@ chain-met-late = (
   tt,
 )
   where
-    unmet : (j : ℕ) → j < 2 → T (not (qHolds d oD 0 (late j)))
+    unmet : (j : ℕ) → j < 2 → T (not (qHolds d gD 0 (late j)))
     unmet zero l = tt
     unmet (suc zero) l = tt
     unmet (suc (suc j)) l = absurd (omega arith)

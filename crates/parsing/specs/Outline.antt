@@ -9,7 +9,7 @@ use Rattle.sections.specs.declared.Section.{Section}
 use Rattle.parsing.specs.declared.Parsed.{Parsed}
 use Rattle.records.specs.Record.{kindIs}
 use Rattle.records.specs.Walk.{inSequence, truthOf}
-use Rattle.sections.specs.Section.{noFields, propertyFields, variablesOf, transitionsOf, expressionsOf, phasesOr, nodesOf, edgesOf}
+use Rattle.sections.specs.Section.{noFields, propertyAt, propertyFields, variablesOf, transitionsOf, expressionsOf, phasesOr, nodesOf, edgesOf}
 
 -- the file goes on behind a part or a section that ends, or its refusal stands
 abbrev pub andParse : Walked → (ℕ → Parsed) → Parsed
@@ -32,7 +32,7 @@ edgesParsed file vars transition transitions property node nodes edge =
 -- the nodes, from `node` on: "too few nodes is 3"
 unfoldable pub nodesParsed : List ℕ → ℕ → ℕ → ℕ → ℕ → ℕ → Parsed
 nodesParsed file vars transition transitions property node =
-    andSection (nodesOf file vars (phasesOr file property 32) node) λ nodes edge.
+    andSection (nodesOf file vars (propertyAt file property .ranks) (phasesOr file property 32) node) λ nodes edge.
     cond (leb (phasesOr file property 1) nodes)
     (edgesParsed file vars transition transitions property node nodes edge)
     (Parsed.Refused 3 edge)

@@ -6,6 +6,7 @@ use records::walk::truths;
 use records::walk::walk;
 use records::zeros;
 use sections::Section;
+use sections::claim_at;
 use sections::edges;
 use sections::expressions;
 use sections::nodes;
@@ -13,22 +14,12 @@ use sections::phases_or;
 use sections::property_fields;
 use sections::transitions;
 use sections::variables;
+use shapes::Outline;
+use shapes::property_of;
 ghost use mathlib.Core.Path.{_≡_};
 ghost use Prim.Native.Nat.{_+_, _*_, _≤_};
 ghost use lib.ListN.{length};
 ghost use Rattle.parsing.specs.Outline.{edgesParsed, nodesParsed, propertyParsed, transitionsParsed, startParsed, parsedOf};
-
-// Where the parts of a file stand, as record numbers, and how many of each there are. The start is at record `vars`.
-pub struct Outline {
-    pub vars: usize,
-    pub transition: usize,
-    pub transitions: usize,
-    pub property: usize,
-    pub node: usize,
-    pub nodes: usize,
-    pub edge: usize,
-    pub edges: usize,
-}
 
 // The outline of a file that parses, or the refusal that meets it, with its number and its place.
 pub enum Parsed {
@@ -82,8 +73,9 @@ fn parse_nodes(
     requires { ⌜ 8 * property + 8 ≤ length (now file) ⌝ }
     ensures { λ r. ⌜ r ≡ nodesParsed (now (file .entry)) vars transition transitions property node ⌝ }
 {
+    let row = property_of(claim_at(file, property));
     let most = phases_or(file, property, 32);
-    let found = nodes(file, vars, most, node);
+    let found = nodes(file, vars, row.ranks, most, node);
     match found {
         Section::Items(count, edge) => {
             if count < phases_or(file, property, 1) {

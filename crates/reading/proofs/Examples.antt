@@ -15,6 +15,7 @@ use Rattle.sections.specs.Section
 use Rattle.parsing.specs.Outline
 use Rattle.reading.specs.declared.Reading.{Reading}
 use Rattle.truths.specs.Search
+use Rattle.shapes.specs.Property
 use Rattle.states.specs.Number
 use Rattle.reading.specs.States
 use Rattle.intervals.specs.Interval
@@ -60,7 +61,7 @@ refused number place = Reading.Refused number place
 -- how many variables; the first transition's record and how many; the property's record; the same of nodes and of edges
 abbrev readable : ℕ → ℕ → ℕ → ℕ → ℕ → ℕ → ℕ → ℕ → Reading
 readable v t ts p n ns e es =
-    Reading.Readable (record { vars = v; transition = t; transitions = ts; property = p; node = n; nodes = ns; edge = e; edges = es })
+    Reading.Found (record { vars = v; transition = t; transitions = ts; property = p; node = n; nodes = ns; edge = e; edges = es })
 
 abbrev marked : List Row
 marked =
@@ -145,14 +146,16 @@ table = marked ++ choices
 columns : map (λ (row : Row). readOf (flatten (row .0))) table ≡ map (λ (row : Row). row .1) table
 unfolding flatten Bytes.signed16 Ends.minZ Ends.maxZ Ends.around Ends.overEnds Ends.inBounds Radix.offsetOf
     Record.kindIs Record.zerosOf Record.sameBytes Kind.within Kind.formOf Kind.signatureOf
-    Walk.expressionFields Walk.inSequence Walk.recordThen Walk.walkOf
+    Walk.expressionFields Walk.inSequence Walk.operandsOf Walk.recordThen Walk.walkOf
     Section.variableFields Section.transitionFields Section.assignmentFields Section.propertyFields Section.edgeFields Section.itemsOf
     Section.variablesOf Section.assignmentsOf Section.transitionOf Section.transitionsOf Section.expressionsOf Section.phasesOr
     Section.nodesOf Section.repeatedOf Section.edgesOf
     Outline.edgesParsed Outline.nodesParsed Outline.propertyParsed Outline.transitionsParsed Outline.startParsed Outline.parsedOf
     Search.any Walk.refuseFirst Number.sizeOf States.sizeAt States.statesOf
     Interval.leafOf Interval.combine Interval.joinOf Interval.ownOf Interval.byOperands Interval.analysisOf Interval.analysedFrom Interval.intervalsOf
-    Edge.descending Edge.transitionAt Edge.justOf Edge.conflictOf Edge.chainRuleOf Edge.ruleOf Edge.rulesOf Edge.doubleFrom Edge.doubledOf Edge.doublesOf
+    Property.claimOf Property.propertyOf Section.phasesFit Section.edgeAt
+    Edge.transitionAt Edge.justOf Edge.conflictOf Edge.leadsOf Edge.fallsOf Edge.doubleRuleOf Edge.ruleOf Edge.rulesOf
+    Edge.doubleFrom Edge.doubledOf Edge.doublesOf
     Read.stagesRead Read.parsedRead Read.readOf
 columns = refl
 

@@ -3,7 +3,7 @@
 use mathlib.Core.List.{List}
 use Prim.Native.Nat.{ℕ}
 use Rattle.records.specs.declared.walk.Walked.{Walked}
-use Rattle.parsing.specs.declared.Outline.{Outline}
+use Rattle.shapes.specs.declared.Outline.{Outline}
 use Rattle.parsing.specs.declared.Parsed.{Parsed}
 use Rattle.parsing.specs.Outline.{parsedOf}
 use Rattle.reading.specs.States.{statesOf}
@@ -23,7 +23,7 @@ stagesRead file o =
     (andStage (intervalsOf file)
     (andStage (rulesOf file o)
     (andStage (doublesOf file o)
-    (Reading.Readable o))))
+    (Reading.Found o))))
 
 -- 2 to 6, then those
 unfoldable pub parsedRead : List ℕ → Parsed → Reading

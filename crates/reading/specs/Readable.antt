@@ -6,14 +6,15 @@ use Prim.Native.Nat.{ℕ, _+_, _<_, _≤_}
 use Rattle.integers.specs.declared.Interval.{Interval}
 use Rattle.integers.specs.Interval.{inBounds}
 use Rattle.records.specs.declared.walk.Walked.{Walked}
-use Rattle.parsing.specs.declared.Outline.{Outline}
-use Rattle.records.specs.Record.{kindAt, fieldA, fieldB, fieldC, fieldD, kindIs}
+use Rattle.shapes.specs.declared.Outline.{Outline}
+use Rattle.records.specs.Record.{kindAt, fieldA, kindIs}
 use Rattle.records.specs.Kind.{number, truth, formAt, signatureAt}
-use Rattle.records.specs.Walk.{inSequence, truthOf}
-use Rattle.sections.specs.Section.{transitionOf, nodeOf}
+use Rattle.records.specs.Walk.{inSequence, walkOf, truthOf}
+use Rattle.shapes.specs.declared.Edge.{Edge}
+use Rattle.sections.specs.Section.{edgeAt, transitionOf, nodeOf}
 use Rattle.intervals.specs.declared.Analysis.{Analysis}
 use Rattle.intervals.specs.Interval.{leafOf, joinOf, analysisOf}
-use Rattle.reading.specs.Edge.{justOf}
+use Rattle.reading.specs.Edge.{property, justOf}
 use Rattle.intervals.specs.Expression.{Expression}
 
 -- ---- the start
@@ -55,35 +56,40 @@ pub record PropertyExpression (file : List ℕ) (o : Outline) (i : ℕ) : Type 0
   pub interval : Interval
   pub expression : Expression file (o .vars) 16 truth place end interval
 
--- node n: it stands at `place`, behind n others; then its assertion
+-- node n: it stands at `place`, behind n others; then its assertion, to `mid`; then its ranks
 pub record Node (file : List ℕ) (o : Outline) (n : ℕ) : Type 0 where
   pub place : ℕ
+  pub mid : ℕ
   pub end : ℕ
-  pub reached : inSequence (nodeOf file (o .vars)) n (o .node) ≡ Walked.End place
+  pub reached : inSequence (nodeOf file (o .vars) (property file o .ranks)) n (o .node) ≡ Walked.End place
   pub named : kindIs file 0x06 place ≡ true
   pub interval : Interval
-  pub assertion : Expression file (o .vars) 16 truth (place + 1) end interval
+  pub assertion : Expression file (o .vars) 16 truth (place + 1) mid interval
+  pub ranks : inSequence (walkOf file (o .vars) 16 number) (property file o .ranks) mid ≡ Walked.End end
 
 -- ---- edges
--- edge e names a transition and two nodes of the file, and is single or double
-pub record Edge (file : List ℕ) (o : Outline) (e : ℕ) : Type 0 where
-  pub transition : fieldA file (o .edge + e) < o .transitions
-  pub from : fieldB file (o .edge + e) < o .nodes
-  pub to : fieldC file (o .edge + e) < o .nodes
-  pub double : fieldD file (o .edge + e) ≤ 1
+-- edge e, and it names a transition and two nodes of the file
+abbrev pub edgeOf : List ℕ → Outline → ℕ → Edge
+edgeOf file o e = edgeAt file (o .edge + e)
 
--- the one double transition of a chain's node: it is just, a double edge carries it from the node, and so does no single one
+pub record EdgeNamed (file : List ℕ) (o : Outline) (e : ℕ) : Type 0 where
+  pub transition : edgeOf file o e .transition < o .transitions
+  pub from : edgeOf file o e .from < o .nodes
+  pub to : edgeOf file o e .to < o .nodes
+
+-- the one double transition of a node: it is just, a double edge carries it from the node, and so does no single one
 pub record DoubleTransition (file : List ℕ) (o : Outline) (node : ℕ) : Type 0 where
   pub transition : ℕ
   pub there : transition < o .transitions
   pub just : justOf file o transition ≡ true
   pub edge : ℕ
   pub edge-there : edge < o .edges
-  pub edge-from : fieldB file (o .edge + edge) ≡ node
-  pub edge-double : fieldD file (o .edge + edge) ≡ 1
-  pub edge-carries : fieldA file (o .edge + edge) ≡ transition
-  pub only : (e : ℕ) → e < o .edges → fieldB file (o .edge + e) ≡ node → fieldD file (o .edge + e) ≡ 1 → fieldA file (o .edge + e) ≡ transition
-  pub never-single : (e : ℕ) → e < o .edges → fieldB file (o .edge + e) ≡ node → fieldA file (o .edge + e) ≡ transition → fieldD file (o .edge + e) ≡ 1
+  pub edge-from : edgeOf file o edge .from ≡ node
+  pub edge-double : edgeOf file o edge .double ≡ true
+  pub edge-carries : edgeOf file o edge .transition ≡ transition
+  pub only : (e : ℕ) → e < o .edges → edgeOf file o e .from ≡ node → edgeOf file o e .double ≡ true → edgeOf file o e .transition ≡ transition
+  pub never-single : (e : ℕ) → e < o .edges → edgeOf file o e .from ≡ node → edgeOf file o e .transition ≡ transition
+      → edgeOf file o e .double ≡ true
 
 -- ---- what refusal 8 says
 -- the own interval of the record at `at`, whose operands' intervals are in bounds: "a constant's own value, a variable's range", or that of a sum,

@@ -1,49 +1,51 @@
 // The edge rules: refusals 9 and 10.
-use parsing::Outline;
 use records::byte_at;
 use records::walk::Walked;
-use records::word_at;
+use sections::claim_at;
+use sections::edge_at;
 use sections::transition_places;
+use shapes::Edge;
+use shapes::Outline;
+use shapes::Property;
+use shapes::property_of;
 ghost use mathlib.Core.Path.{_≡_};
 ghost use Prim.Native.Nat.{_+_, _*_, _≤_, _<_};
 ghost use lib.ListN.{length};
 ghost use Rattle.sections.specs.Section.{transitionOf};
 ghost use Rattle.records.specs.Place.{placesOf};
 ghost use Rattle.truths.specs.Search.{any};
-ghost use Rattle.reading.specs.Edge.{descending, conflictOf, justOf, chainRuleOf, ruleOf, rulesOf, doubleFrom, doubledOf, doublesOf};
+ghost use Rattle.sections.specs.Section.{edgeAt};
+ghost use Rattle.reading.specs.Edge.{conflictOf, justOf, leadsOf, fallsOf, doubleRuleOf, ruleOf, rulesOf, doubleFrom, doubledOf, doublesOf};
 ghost use Rattle.reading.specs.Edge.{OutlineFits, EdgeFits};
 
 // Whether two edges conflict: from one node, either of one transition, single and double, or both double.
-fn conflict(file: &[u8], i: usize, j: usize) -> bool
-    requires { ⌜ (8 * i + 8 ≤ length (now file)) × (8 * j + 8 ≤ length (now file)) ⌝ }
-    ensures { λ r. ⌜ r ≡ conflictOf (now (file .entry)) i j ⌝ }
+fn conflict(a: Edge, b: Edge) -> bool
+    ensures { λ r. ⌜ r ≡ conflictOf a b ⌝ }
 {
-    if word_at(file, 8 * i + 2) != word_at(file, 8 * j + 2) {
+    if a.from != b.from {
         return false;
     }
-    let d = file[8 * i + 6];
-    let e = file[8 * j + 6];
-    if file[8 * i + 1] == file[8 * j + 1] {
-        return d != e;
+    if a.transition == b.transition {
+        return a.double != b.double;
     }
-    if d == 1 {
-        return e == 1;
+    if a.double {
+        return b.double;
     }
     false
 }
 
-// Whether one of the n edges from `first` on conflicts with the edge at `at`.
-fn conflicts(file: &[u8], at: usize, first: usize, n: usize) -> bool
-    requires { ⌜ (8 * at + 8 ≤ length (now file)) × (first + n ≤ at) ⌝ }
-    ensures { λ r. ⌜ r ≡ any (λ e. conflictOf (now (file .entry)) e at) n first ⌝ }
+// Whether one of the n edges from record `first` on conflicts with the edge.
+fn conflicts(file: &[u8], edge: Edge, first: usize, n: usize) -> bool
+    requires { ⌜ 8 * (first + n) ≤ length (now file) ⌝ }
+    ensures { λ r. ⌜ r ≡ any (λ i. conflictOf (edgeAt (now (file .entry)) i) edge) n first ⌝ }
 {
     let mut left = n;
-    let mut edge = first;
+    let mut at = first;
     while 0 < left {
-        if conflict(file, edge, at) {
+        if conflict(edge_at(file, at), edge) {
             return true;
         }
-        edge += 1;
+        at += 1;
         left -= 1;
     }
     false
@@ -60,34 +62,46 @@ fn just(file: &[u8], outline: Outline, places: [usize; 32], t: usize) -> bool
     byte_at(file, 8 * place + 1) == 1
 }
 
-// Whether the edge at `at` goes from node 1 up to a node not above.
-fn descends(file: &[u8], at: usize) -> bool
-    requires { ⌜ 8 * at + 8 ≤ length (now file) ⌝ }
-    ensures { λ r. ⌜ r ≡ descending (now (file .entry)) at ⌝ }
+// Whether an edge leads from a node that it may, and not up unless it may.
+fn leads(property: Property, edge: Edge) -> bool
+    ensures { λ r. ⌜ r ≡ leadsOf property edge ⌝ }
 {
-    let from = word_at(file, 8 * at + 2);
-    if from < 1 {
+    if edge.from < property.from {
         return false;
     }
-    word_at(file, 8 * at + 4) <= from
-}
-
-// Whether a chain's edge that descends obeys the rules of double edges.
-fn chain_rule(file: &[u8], outline: Outline, places: [usize; 32], at: usize) -> bool
-    requires { ⌜ EdgeFits (now file) outline places at ⌝ }
-    ensures { λ r. ⌜ r ≡ chainRuleOf (now (file .entry)) outline at ⌝ }
-{
-    let first = outline.edge;
-    if conflicts(file, at, first, at - first) {
-        return false;
-    }
-    if file[8 * at + 6] == 0 {
+    if property.rising {
         return true;
     }
-    if word_at(file, 8 * at + 4) < word_at(file, 8 * at + 2) {
-        return just(file, outline, places, file[8 * at + 1] as usize);
+    edge.to <= edge.from
+}
+
+// Whether a double edge leads down, or anywhere where edges may.
+fn falls(property: Property, edge: Edge) -> bool
+    ensures { λ r. ⌜ r ≡ fallsOf property edge ⌝ }
+{
+    if property.rising {
+        return true;
     }
-    false
+    edge.to < edge.from
+}
+
+// Whether an edge of a diagram that has double edges obeys the rules of those.
+fn double_rule(file: &[u8], outline: Outline, places: [usize; 32], at: usize) -> bool
+    requires { ⌜ EdgeFits (now file) outline places at ⌝ }
+    ensures { λ r. ⌜ r ≡ doubleRuleOf (now (file .entry)) outline at ⌝ }
+{
+    let edge = edge_at(file, at);
+    let first = outline.edge;
+    if conflicts(file, edge, first, at - first) {
+        return false;
+    }
+    if !edge.double {
+        return true;
+    }
+    if !falls(property_of(claim_at(file, outline.property)), edge) {
+        return false;
+    }
+    just(file, outline, places, edge.transition)
 }
 
 // Whether the edge at `at` obeys the edge rules, given the edges before it.
@@ -95,19 +109,15 @@ fn rule(file: &[u8], outline: Outline, places: [usize; 32], at: usize) -> bool
     requires { ⌜ EdgeFits (now file) outline places at ⌝ }
     ensures { λ r. ⌜ r ≡ ruleOf (now (file .entry)) outline at ⌝ }
 {
-    let property = outline.property;
-    let diagram = file[8 * property + 1];
-    let single = file[8 * at + 6] == 0;
-    if diagram == 1 {
-        return single;
-    }
-    if !descends(file, at) {
+    let property = property_of(claim_at(file, outline.property));
+    let edge = edge_at(file, at);
+    if !leads(property, edge) {
         return false;
     }
-    if diagram == 2 {
-        return single;
+    if property.doubles {
+        return double_rule(file, outline, places, at);
     }
-    chain_rule(file, outline, places, at)
+    !edge.double
 }
 
 // Refusal 9 at the first edge that breaks a rule.
@@ -128,18 +138,17 @@ pub(crate) fn rules(file: &[u8], outline: Outline) -> Walked
     Walked::End(at)
 }
 
-// Whether the edge at `at` is double and goes from the node.
-pub fn double_from(file: &[u8], at: usize, node: usize) -> bool
-    requires { ⌜ 8 * at + 8 ≤ length (now file) ⌝ }
-    ensures { λ r. ⌜ r ≡ doubleFrom (now (file .entry)) node at ⌝ }
+// Whether the edge is double and leads from the node.
+fn double_from(edge: Edge, node: usize) -> bool
+    ensures { λ r. ⌜ r ≡ doubleFrom node edge ⌝ }
 {
-    if file[8 * at + 6] == 1 {
-        return word_at(file, 8 * at + 2) == node;
+    if edge.double {
+        return edge.from == node;
     }
     false
 }
 
-// Whether a double edge goes from the node.
+// Whether a double edge leads from the node.
 fn doubled(file: &[u8], outline: Outline, node: usize) -> bool
     requires { ⌜ OutlineFits (now file) outline ⌝ }
     ensures { λ r. ⌜ r ≡ doubledOf (now (file .entry)) outline node ⌝ }
@@ -147,7 +156,7 @@ fn doubled(file: &[u8], outline: Outline, node: usize) -> bool
     let mut left = outline.edges;
     let mut at = outline.edge;
     while 0 < left {
-        if double_from(file, at, node) {
+        if double_from(edge_at(file, at), node) {
             return true;
         }
         at += 1;
@@ -156,21 +165,22 @@ fn doubled(file: &[u8], outline: Outline, node: usize) -> bool
     false
 }
 
-// Refusal 10 at the lowest node of a chain, from 1 up, without a double edge.
+// Refusal 10 at the lowest node that lacks its double edge.
 pub(crate) fn doubles(file: &[u8], outline: Outline) -> Walked
     requires { ⌜ OutlineFits (now file) outline ⌝ }
     ensures { λ r. ⌜ r ≡ doublesOf (now (file .entry)) outline ⌝ }
 {
-    let property = outline.property;
-    let nodes = outline.nodes;
-    if file[8 * property + 1] != 3 {
+    let property = property_of(claim_at(file, outline.property));
+    if !property.doubles {
         return Walked::End(0);
     }
-    if nodes == 0 {
-        return Walked::End(1);
+    let nodes = outline.nodes;
+    let from = property.from;
+    if nodes < from {
+        return Walked::End(from);
     }
-    let mut left = nodes - 1;
-    let mut node: usize = 1;
+    let mut left = nodes - from;
+    let mut node = from;
     while 0 < left {
         if !doubled(file, outline, node) {
             return Walked::Refused(10, node);

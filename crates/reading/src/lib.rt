@@ -1,8 +1,8 @@
 // Reading a file: its parts (crate parsing), then refusals 7 to 10.
-use parsing::Outline;
 use parsing::Parsed;
 use parsing::parse;
 use records::walk::Walked;
+use shapes::Outline;
 ghost use mathlib.Core.Path.{_≡_};
 ghost use Rattle.reading.specs.Edge.{OutlineFits};
 ghost use Rattle.reading.specs.Read.{stagesRead, readOf};
@@ -12,7 +12,7 @@ pub mod product;
 
 // The outline of a readable file, or the refusal that meets it, with its number and its place.
 pub enum Reading {
-    Readable(Outline),
+    Found(Outline),
     Refused(u8, usize),
 }
 
@@ -37,7 +37,7 @@ fn read_parsed(file: &[u8], outline: Outline) -> Reading
     if let Walked::Refused(number, place) = doubles {
         return Reading::Refused(number, place);
     }
-    Reading::Readable(outline)
+    Reading::Found(outline)
 }
 
 // Reads a file: the refusals 2 to 10, or where its parts stand.

@@ -1,4 +1,3 @@
 -- The definitions one step at a time, as the code goes.
 pub mod Record
 pub mod Walk
-pub mod Kind

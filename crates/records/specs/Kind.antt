@@ -36,20 +36,20 @@ number = 1
 abbrev pub truth : ℕ
 truth = 2
 
-abbrev pub row : ℕ → ℕ → ℕ → Signature
-row s n o = record { sort = s; operands = n; over = o }
+abbrev pub row : ℕ → ℕ → ℕ → ℕ → Signature
+row s n a b = record { sort = s; operands = n; first = a; second = b }
 
--- a form's own sort, how many operands follow, and their sort
+-- a form's own sort, how many operands follow, and the sorts of the first and of the second
 unfoldable pub signatureOf : Form → Signature
-signatureOf Constant = row number 0 none
-signatureOf Variable = row number 0 none
-signatureOf Arithmetic = row number 2 number
-signatureOf Indicator = row number 1 truth
-signatureOf Literal = row truth 0 none
-signatureOf Negation = row truth 1 truth
-signatureOf Connective = row truth 2 truth
-signatureOf Comparison = row truth 2 number
-signatureOf Unfit = row none 0 none
+signatureOf Constant = row number 0 none none
+signatureOf Variable = row number 0 none none
+signatureOf Arithmetic = row number 2 number number
+signatureOf Indicator = row number 1 truth none
+signatureOf Literal = row truth 0 none none
+signatureOf Negation = row truth 1 truth none
+signatureOf Connective = row truth 2 truth truth
+signatureOf Comparison = row truth 2 number number
+signatureOf Unfit = row none 0 none none
 
 -- those of the record at `at`
 abbrev pub formAt : List ℕ → ℕ → Form

@@ -2,5 +2,4 @@
 pub mod Record
 pub mod Kind
 pub mod Walk
-pub mod Table
 pub mod Place

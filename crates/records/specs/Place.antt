@@ -3,7 +3,7 @@ use Prim.Native.Nat.{ℕ}
 use mathlib.Core.List.{List}
 use Rattle.records.specs.declared.walk.Walked.{Walked}
 use Rattle.records.specs.Walk.{inSequence}
-use Rattle.records.specs.Table.{tableOf}
+use Rattle.truths.specs.Table.{tableOf}
 
 -- the record that a walk ends before; 0 where it is refused
 abbrev pub placeOf : Walked → ℕ

@@ -27,6 +27,11 @@ unfoldable pub inSequence : (ℕ → Walked) → ℕ → ℕ → Walked
 inSequence part zero at = End at
 inSequence part (suc n) at = andThen (part at) (inSequence part n)
 
+-- n operands, each walked by `part` with its sort: the first of sort a, and behind it those of sort b
+unfoldable pub operandsOf : (ℕ → ℕ → Walked) → ℕ → ℕ → ℕ → ℕ → Walked
+operandsOf part a b zero at = End at
+operandsOf part a b (suc n) at = andThen (part a at) (inSequence (part b) n)
+
 -- the record at `at` by itself, then `rest`: 3 where the file ends before it or its kind is not of the sort wanted, 4 where a field has a value not
 -- allowed
 unfoldable pub recordThen : List ℕ → ℕ → ℕ → ℕ → Walked → Walked
@@ -39,8 +44,8 @@ recordThen file vars want at rest =
 unfoldable pub walkOf : List ℕ → ℕ → ℕ → ℕ → ℕ → Walked
 walkOf file vars zero want at = recordThen file vars want at (Refused 5 at)
 walkOf file vars (suc levels) want at =
-    recordThen file vars want at
-    (inSequence (walkOf file vars levels (signatureAt file at .over)) (signatureAt file at .operands) (at + 1))
+    let s = signatureAt file at in
+    recordThen file vars want at (operandsOf (walkOf file vars levels) (s .first) (s .second) (s .operands) (at + 1))
 
 -- a whole truth expression
 abbrev pub truthOf : List ℕ → ℕ → ℕ → Walked

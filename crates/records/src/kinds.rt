@@ -24,11 +24,12 @@ pub enum Form {
     Unfit,
 }
 
-// A form's own sort, how many operands follow, and their sort.
+// A form's own sort, how many operands follow, and the sorts of the first and of the second.
 pub struct Signature {
     pub sort: u8,
     pub operands: usize,
-    pub over: u8,
+    pub first: u8,
+    pub second: u8,
 }
 
 // The form of a kind byte, by the ranges of kinds.
@@ -49,13 +50,14 @@ pub fn form_of(kind: u8) -> Form
 }
 
 // A row of the table below.
-fn row(sort: u8, operands: usize, over: u8) -> Signature
-    ensures { λ r. ⌜ r ≡ row sort operands over ⌝ }
+fn row(sort: u8, operands: usize, first: u8, second: u8) -> Signature
+    ensures { λ r. ⌜ r ≡ row sort operands first second ⌝ }
 {
     Signature {
         sort,
         operands,
-        over,
+        first,
+        second,
     }
 }
 
@@ -64,15 +66,15 @@ pub fn signature_of(form: Form) -> Signature
     ensures { λ r. ⌜ r ≡ signatureOf form ⌝ }
 {
     match form {
-        Form::Constant => row(NUMBER, 0, NONE),
-        Form::Variable => row(NUMBER, 0, NONE),
-        Form::Arithmetic => row(NUMBER, 2, NUMBER),
-        Form::Indicator => row(NUMBER, 1, TRUTH),
-        Form::Literal => row(TRUTH, 0, NONE),
-        Form::Negation => row(TRUTH, 1, TRUTH),
-        Form::Connective => row(TRUTH, 2, TRUTH),
-        Form::Comparison => row(TRUTH, 2, NUMBER),
-        Form::Unfit => row(NONE, 0, NONE),
+        Form::Constant => row(NUMBER, 0, NONE, NONE),
+        Form::Variable => row(NUMBER, 0, NONE, NONE),
+        Form::Arithmetic => row(NUMBER, 2, NUMBER, NUMBER),
+        Form::Indicator => row(NUMBER, 1, TRUTH, NONE),
+        Form::Literal => row(TRUTH, 0, NONE, NONE),
+        Form::Negation => row(TRUTH, 1, TRUTH, NONE),
+        Form::Connective => row(TRUTH, 2, TRUTH, TRUTH),
+        Form::Comparison => row(TRUTH, 2, NUMBER, NUMBER),
+        Form::Unfit => row(NONE, 0, NONE, NONE),
     }
 }
 

@@ -53,7 +53,8 @@ pub fn walk(file: &[u8], at: usize, want: u8, vars: usize, levels: usize) -> Wal
     if levels == 0 {
         return Walked::Refused(5, at);
     }
-    let over = signature.over;
+    let second = signature.second;
+    let mut over = signature.first;
     let mut left = signature.operands;
     let mut next = at + 1;
     while 0 < left {
@@ -62,19 +63,20 @@ pub fn walk(file: &[u8], at: usize, want: u8, vars: usize, levels: usize) -> Wal
             Walked::End(end) => next = end,
             Walked::Refused(number, place) => return Walked::Refused(number, place),
         }
+        over = second;
         left -= 1;
     }
     Walked::End(next)
 }
 
-// n truth expressions, one behind the other, from record `at` on.
-pub fn truths(file: &[u8], vars: usize, n: usize, at: usize) -> Walked
-    ensures { λ r. ⌜ r ≡ inSequence (truthOf (now (file .entry)) vars) n at ⌝ }
+// n expressions of a sort, one behind the other, from record `at` on.
+pub fn sequence(file: &[u8], sort: u8, vars: usize, n: usize, at: usize) -> Walked
+    ensures { λ r. ⌜ r ≡ inSequence (walkOf (now (file .entry)) vars 16 sort) n at ⌝ }
 {
     let mut left = n;
     let mut next = at;
     while 0 < left {
-        let part = walk(file, next, TRUTH, vars, 16);
+        let part = walk(file, next, sort, vars, 16);
         match part {
             Walked::End(end) => next = end,
             Walked::Refused(number, place) => return Walked::Refused(number, place),
@@ -82,4 +84,11 @@ pub fn truths(file: &[u8], vars: usize, n: usize, at: usize) -> Walked
         left -= 1;
     }
     Walked::End(next)
+}
+
+// n truth expressions.
+pub fn truths(file: &[u8], vars: usize, n: usize, at: usize) -> Walked
+    ensures { λ r. ⌜ r ≡ inSequence (truthOf (now (file .entry)) vars) n at ⌝ }
+{
+    sequence(file, TRUTH, vars, n, at)
 }

@@ -1,2 +1,3 @@
 -- The sections of a file: variables, transitions, nodes, edges, and the fields of their records.
 pub mod Section
+pub mod Item

@@ -1,6 +1,6 @@
 -- The sections of a file ("The file"): at each record "3 to 6 are tried in that order", first record first.
 use Prim.Native.Nat.{ℕ, zero, suc, _+_, _*_, _-_}
-use mathlib.Core.Bool.{Bool, cond, _&&_, _||_}
+use mathlib.Core.Bool.{Bool, cond, _&&_}
 use mathlib.Core.List.{List}
 use lib.ListN.{getD, set, replicate}
 use lib.Dec.{ltb, leb, eqb}
@@ -9,8 +9,12 @@ use Rattle.records.specs.declared.walk.Walked.{Walked}
 use Rattle.sections.specs.declared.Section.{Section}
 use Rattle.records.specs.Record.{fieldA, fieldB, fieldC, fieldD, valueB, valueC, kindIs, zerosOf, sameBytes}
 use Rattle.truths.specs.Search.{any}
+use Rattle.shapes.specs.declared.Claim.{Claim}
+use Rattle.shapes.specs.declared.Property.{Property}
+use Rattle.shapes.specs.declared.Edge.{Edge}
+use Rattle.shapes.specs.Property.{claimOf, propertyOf}
 use Rattle.records.specs.Kind.{number, truth}
-use Rattle.records.specs.Walk.{andThen, walkOf, truthOf}
+use Rattle.records.specs.Walk.{andThen, inSequence, walkOf, truthOf}
 
 -- ---- the fields of a section's records: "A field has a value not allowed, or names a variable, transition or node that the file lacks" (4)
 -- "01 variable, range b..c, b ≤ c"
@@ -29,16 +33,28 @@ transitionFields file at = leb (fieldA file at) 1 && zerosOf file (8 * at + 2) 6
 unfoldable pub assignmentFields : List ℕ → ℕ → ℕ → Bool
 assignmentFields file vars at = ltb (fieldA file at) vars && zerosOf file (8 * at + 2) 6
 
--- "05 property. a = 1 invariance .. a = 2 wait-for, b = 1..32 the count of phases .. a = 3 chain"
+-- "05 property": what it claims, and what that asks
+abbrev pub claimAt : List ℕ → ℕ → Claim
+claimAt file at = claimOf (fieldA file at)
+
+abbrev pub propertyAt : List ℕ → ℕ → Property
+propertyAt file at = propertyOf (claimAt file at)
+
+-- "b = 1..32 the count of phases", where they are counted
+unfoldable pub phasesFit : Bool → ℕ → Bool
+phasesFit phased b = cond phased (leb 1 b && leb b 32) (eqb b 0)
+
 unfoldable pub propertyFields : List ℕ → ℕ → Bool
-propertyFields file at =
-    cond (eqb (fieldA file at) 2) (leb 1 (fieldB file at) && leb (fieldB file at) 32 && zerosOf file (8 * at + 4) 4)
-    ((eqb (fieldA file at) 1 || eqb (fieldA file at) 3) && zerosOf file (8 * at + 2) 6)
+propertyFields file at = propertyAt file at .known && phasesFit (propertyAt file at .phased) (fieldB file at) && zerosOf file (8 * at + 4) 4
 
 -- "07 edge: a transition, b from, c to, d = 0 single, 1 double"
 unfoldable pub edgeFields : List ℕ → ℕ → ℕ → ℕ → Bool
 edgeFields file transitions nodes at =
     ltb (fieldA file at) transitions && ltb (fieldB file at) nodes && ltb (fieldC file at) nodes && leb (fieldD file at) 1 && zerosOf file (8 * at + 7) 1
+
+-- the edge itself
+unfoldable pub edgeAt : List ℕ → ℕ → Edge
+edgeAt file at = record { transition = fieldA file at; from = fieldB file at; to = fieldC file at; double = eqb (fieldD file at) 1 }
 
 -- ---- sections: "A variable, transition, node, edge or nesting level is one past its limit" (5), "A transition assigns a variable again, or an edge
 -- repeats a, b and c" (6)
@@ -82,19 +98,20 @@ transitionOf file vars at = andThen (walkOf file vars 16 truth (at + 1)) (assign
 unfoldable pub transitionsOf : List ℕ → ℕ → ℕ → Section
 transitionsOf file vars at = itemsOf file 0x03 (transitionFields file) (transitionOf file vars) 32 0 at
 
--- how many expressions follow the property at `at`: "then q"; "then p, q_0, q_1 and on to q_m, m = b - 1"; "then p, q"
-unfoldable pub expressionsOf : List ℕ → ℕ → ℕ
-expressionsOf file at = cond (eqb (fieldA file at) 1) 1 (cond (eqb (fieldA file at) 2) (fieldB file at + 1) 2)
-
--- "06 node, then its assertion (truth): 1 to 32; for wait-for exactly b": a wait-for's b, or the limit of the other diagrams
+-- "06 node, then its assertion (truth): 1 to 32; for wait-for exactly b": as many as the property at `at` counts phases, or else the limit
 unfoldable pub phasesOr : List ℕ → ℕ → ℕ → ℕ
-phasesOr file property limit = cond (eqb (fieldA file property) 2) (fieldB file property) limit
+phasesOr file at limit = cond (propertyAt file at .phased) (fieldB file at) limit
 
-abbrev pub nodeOf : List ℕ → ℕ → ℕ → Walked
-nodeOf file vars at = truthOf file vars (at + 1)
+-- how many expressions follow the property: "then q"; "then p, q_0, q_1 and on to q_m, m = b - 1"; "then p, q"
+unfoldable pub expressionsOf : List ℕ → ℕ → ℕ
+expressionsOf file at = cond (propertyAt file at .entry) 1 0 + phasesOr file at 1
 
-unfoldable pub nodesOf : List ℕ → ℕ → ℕ → ℕ → Section
-nodesOf file vars most at = itemsOf file 0x06 (noFields file) (nodeOf file vars) most 0 at
+-- its assertion, and then its ranks, numbers
+abbrev pub nodeOf : List ℕ → ℕ → ℕ → ℕ → Walked
+nodeOf file vars ranks at = andThen (truthOf file vars (at + 1)) (inSequence (walkOf file vars 16 number) ranks)
+
+unfoldable pub nodesOf : List ℕ → ℕ → ℕ → ℕ → ℕ → Section
+nodesOf file vars ranks most at = itemsOf file 0x06 (noFields file) (nodeOf file vars ranks) most 0 at
 
 -- one of the n edges from `first` on has the a, b and c of the edge at `at`
 unfoldable pub repeatedOf : List ℕ → ℕ → ℕ → ℕ → Bool

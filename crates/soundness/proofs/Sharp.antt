@@ -1,3 +1,4 @@
 mod Files
 mod System
 mod Claims
+mod Computing

@@ -4,39 +4,8 @@ use integers::radix::value_at;
 ghost use mathlib.Core.Path.{_≡_};
 ghost use Prim.Native.Nat.{_≤_, _<_};
 ghost use lib.Signed.{_≤ℤ_};
-ghost use Rattle.states.specs.State.{endsOf, lowsOf, highsOf, Ranges, Within, Idle};
+ghost use Rattle.states.specs.State.{Ranges, Within, Idle};
 ghost use Rattle.states.specs.Number.{sizeOf, countOf, stateOf, numberOf, advanceOf};
-
-// The low (field 2) or high (field 4) ends of the ranges of a file's variables.
-fn ends(file: &[u8], vars: usize, field: usize) -> [i16; 12]
-    requires most { ⌜ vars ≤ 12 ⌝ }
-    requires field { ⌜ field ≤ 8 ⌝ }
-    ensures { λ r. ⌜ r ≡ endsOf (now (file .entry)) vars field ⌝ }
-{
-    let mut ends = [0i16; 12];
-    let mut v: usize = 0;
-    while v < vars {
-        ends[v] = records::value_at(file, 8 * v + field);
-        v += 1;
-    }
-    ends
-}
-
-// The low ends of the ranges of a file's variables.
-pub fn lows(file: &[u8], vars: usize) -> [i16; 12]
-    requires { ⌜ vars ≤ 12 ⌝ }
-    ensures { λ r. ⌜ r ≡ lowsOf (now (file .entry)) vars ⌝ }
-{
-    ends(file, vars, 2)
-}
-
-// The high ends.
-pub fn highs(file: &[u8], vars: usize) -> [i16; 12]
-    requires { ⌜ vars ≤ 12 ⌝ }
-    ensures { λ r. ⌜ r ≡ highsOf (now (file .entry)) vars ⌝ }
-{
-    ends(file, vars, 4)
-}
 
 // How many values a range has.
 pub fn size(low: i16, high: i16) -> usize

@@ -2,3 +2,4 @@ pub mod Targets
 pub mod Marks
 pub mod Testing
 pub mod Boxes
+pub mod Holding

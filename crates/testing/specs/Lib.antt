@@ -1,4 +1,3 @@
 -- Whether a condition holds at a state: the condition prepared for its tests.
-pub mod Diagram
 pub mod Holding
 pub mod Testing

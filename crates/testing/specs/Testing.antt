@@ -7,19 +7,16 @@ use Prim.Native.Nat.{ℕ, zero, suc, _+_, _-_, _≤_, _<_}
 use lib.ListN.{length, getD, take, replicate}
 use lib.Dec.{eqb}
 use lib.IntN.{ℤ}
-use Rattle.parsing.specs.declared.Outline.{Outline}
-use Rattle.records.specs.Record.{fieldC}
-use Rattle.records.specs.Kind.{truth as truthSort}
+use Rattle.diagrams.specs.declared.Diagram.{Diagram}
 use Rattle.truths.specs.Search.{any}
-use Rattle.sections.specs.Section.{nodeOf, transitionOf}
-use Rattle.records.specs.Place.{placesOf}
-use Rattle.records.specs.Table.{tabulate}
-use Rattle.reading.specs.Edge.{transitionAt}
-use Rattle.expressions.specs.Expression.{partAt, holdsOf, Fits}
+use Rattle.truths.specs.Table.{tabulate}
+use Rattle.diagrams.specs.Diagram.{edgeOf}
+use Rattle.diagrams.specs.Truth.{claimedAt, qAt}
+use Rattle.diagrams.specs.System.{stepAt}
+use Rattle.expressions.specs.Expression.{holdsOf, TruthFits}
 use Rattle.states.specs.State.{Within}
 use Rattle.evaluating.specs.Transition.{guardOf, enabledOf, successorOf, TransitionFits}
 use Rattle.conditions.specs.Edges.{carries, isDouble}
-use Rattle.testing.specs.Diagram.{nodeAt, claimedAt, qAt}
 use Rattle.truths.specs.Truth.{implies}
 use Rattle.conditions.specs.declared.Condition.{Condition}
 use Rattle.conditions.specs.declared.Condition.the-variants.{Start, Entry, Cover, Range, Step, Enabling}
@@ -35,44 +32,42 @@ use Rattle.successors.specs.Successor.{moveOf}
 
 -- ---- the targets of a condition
 -- the nodes that a step of transition t from node n may lead to: targets of its edges, and node n itself where it may keep it
-unfoldable pub marksOf : List ℕ → Outline → ℕ → ℕ → Bool → List Bool
-marksOf file o n t keep =
-    tabulate (λ j. (keep && eqb j n) || any (λ e. carries file n t e && eqb (fieldC file e) j) (o .edges) (o .edge)) 32 0
+unfoldable pub marksOf : List ℕ → Diagram → ℕ → ℕ → Bool → List Bool
+marksOf file g n t keep =
+    tabulate (λ j. (keep && eqb j n) || any (λ e. carries n t (edgeOf file g e) && eqb (edgeOf file g e .to) j) (g .edges) 0) 32 0
 
 -- where the assertions of the marked among the n nodes from `at` on stand
 unfoldable pub chosenFrom : List Bool → List ℕ → ℕ → ℕ → List ℕ
-chosenFrom marks nodes zero at = []
-chosenFrom marks nodes (suc n) at =
-    cond (getD marks at false) ((getD nodes at 0 + 1) ∷ chosenFrom marks nodes n (at + 1)) (chosenFrom marks nodes n (at + 1))
+chosenFrom marks assertions zero at = []
+chosenFrom marks assertions (suc n) at =
+    cond (getD marks at false) (getD assertions at 0 ∷ chosenFrom marks assertions n (at + 1)) (chosenFrom marks assertions n (at + 1))
 
 -- a list of places as 32 of them, zeros beyond
 unfoldable pub targetsOf : List ℕ → Targets
 targetsOf list = record { places = list ++ replicate (32 - length list) 0; count = length list }
 
 unfoldable pub chosenOf : List Bool → List ℕ → ℕ → Targets
-chosenOf marks nodes n = targetsOf (chosenFrom marks nodes n 0)
-
--- where the nodes and the transitions stand
-unfoldable pub nodePlaces : List ℕ → Outline → List ℕ
-nodePlaces file o = placesOf (nodeOf file (o .vars)) (o .nodes) (o .node)
-
-unfoldable pub transitionPlaces : List ℕ → Outline → List ℕ
-transitionPlaces file o = placesOf (transitionOf file (o .vars)) (o .transitions) (o .transition)
+chosenOf marks assertions n = targetsOf (chosenFrom marks assertions n 0)
 
 -- ---- the test of a condition
 unfoldable pub preparedOf : ℕ → Conclusion → ℕ → Targets → Test
 preparedOf premise conclusion transition targets =
     record { premise = premise; conclusion = conclusion; transition = transition; targets = targets .places; count = targets .count }
 
-unfoldable pub testOf : List ℕ → Outline → Condition → Test
-testOf file o Start = preparedOf (o .vars + 1) Conclusion.SomeTarget 0 (chosenOf (replicate 32 true) (nodePlaces file o) (o .nodes))
-testOf file o Entry = preparedOf (claimedAt file o 0) Conclusion.SomeTarget 0 (chosenOf (replicate 32 true) (nodePlaces file o) (o .nodes))
-testOf file o (Cover n) = preparedOf (nodeAt file o n + 1) Conclusion.SomeTarget 0 (targetsOf (qAt file o n ∷ []))
-testOf file o (Range n t) = preparedOf (nodeAt file o n + 1) Conclusion.ValuesInRange (transitionAt file o t) (targetsOf [])
-testOf file o (Step n t) =
-    preparedOf (nodeAt file o n + 1) Conclusion.Reached (transitionAt file o t)
-    (chosenOf (marksOf file o n t (not (isDouble file o n t))) (nodePlaces file o) (o .nodes))
-testOf file o (Enabling n t) = preparedOf (nodeAt file o n + 1) Conclusion.Enabled (transitionAt file o t) (targetsOf [])
+-- where the assertion of node n stands
+abbrev assertionAt : Diagram → ℕ → ℕ
+assertionAt g n = getD (g .assertions) n 0
+
+abbrev someOf : Diagram → List Bool → Targets
+someOf g marks = chosenOf marks (g .assertions) (g .nodes)
+
+unfoldable pub testOf : List ℕ → Diagram → Condition → Test
+testOf file g Start = preparedOf (g .start) Conclusion.SomeTarget 0 (someOf g (replicate 32 true))
+testOf file g Entry = preparedOf (claimedAt file g 0) Conclusion.SomeTarget 0 (someOf g (replicate 32 true))
+testOf file g (Cover n) = preparedOf (assertionAt g n) Conclusion.SomeTarget 0 (targetsOf (qAt file g n ∷ []))
+testOf file g (Range n t) = preparedOf (assertionAt g n) Conclusion.ValuesInRange (stepAt g t) (targetsOf [])
+testOf file g (Step n t) = preparedOf (assertionAt g n) Conclusion.Reached (stepAt g t) (someOf g (marksOf file g n t (not (isDouble file g n t))))
+testOf file g (Enabling n t) = preparedOf (assertionAt g n) Conclusion.Enabled (stepAt g t) (targetsOf [])
 
 -- ---- what a test says, of a state and of a box
 -- one of the truths at the places listed holds
@@ -114,12 +109,12 @@ unfoldable pub passesIn : Box → List ℕ → Test → Box → Seen
 passesIn ranges file test b = impliedIn (concludesIn ranges file test (test .conclusion) b) (seenOf file (test .premise) b)
 
 -- ---- what the code asks: what a test speaks of can be evaluated at every state
-abbrev pub TruthFits : List ℤ → List ℤ → List ℕ → ℕ → Type 0
-TruthFits lows highs file at = (state : List ℤ) → Within lows highs state → Fits 16 truthSort (partAt file at) state
+abbrev pub FitsEverywhere : List ℤ → List ℤ → List ℕ → ℕ → Type 0
+FitsEverywhere lows highs file at = (state : List ℤ) → Within lows highs state → TruthFits file at state
 
 pub record TestFits (lows highs : List ℤ) (file : List ℕ) (test : Test) : Type 0 where
-  pub premise : TruthFits lows highs file (test .premise)
+  pub premise : FitsEverywhere lows highs file (test .premise)
   pub few : test .count ≤ 32
-  pub targets : (i : ℕ) → i < test .count → TruthFits lows highs file (getD (test .targets) i 0)
+  pub targets : (i : ℕ) → i < test .count → FitsEverywhere lows highs file (getD (test .targets) i 0)
   pub transition : (test .conclusion ≡ Conclusion.SomeTarget → ⊥)
       → (state : List ℤ) → Within lows highs state → TransitionFits file (test .transition) state

@@ -3,21 +3,19 @@ pub mod tests;
 
 use conditions::Condition;
 use conditions::double_of;
-use parsing::Outline;
-use records::byte_at;
-use records::walk::Walked;
-use records::walk::truths;
-use records::word_at;
+use diagrams::Diagram;
+use diagrams::claimed_at;
+use diagrams::edge_of;
+use diagrams::q_at;
+use shapes::Edge;
 ghost use mathlib.Core.Path.{_≡_};
 ghost use mathlib.Core.List.{[], _∷_};
-ghost use Prim.Native.Nat.{ℕ, _+_, _*_, _≤_, _<_};
-ghost use lib.ListN.{length, getD};
-ghost use Rattle.reading.specs.declared.Reading.{Reading};
-ghost use Rattle.reading.specs.Read.{readOf};
+ghost use Prim.Native.Nat.{ℕ, _≤_, _<_};
+ghost use lib.ListN.{getD};
+ghost use Rattle.diagrams.specs.Diagram.{Loaded};
 ghost use Rattle.conditions.specs.Edges.{carries};
-ghost use Rattle.testing.specs.Diagram.{claimedAt, qAt};
 ghost use Rattle.conditions.specs.Condition.{Listed};
-ghost use Rattle.testing.specs.Testing.{marksOf, targetsOf, chosenOf, nodePlaces, transitionPlaces, preparedOf, testOf};
+ghost use Rattle.testing.specs.Testing.{marksOf, targetsOf, chosenOf, preparedOf, testOf};
 
 // What a condition's premise must imply: that one of the targets is true; that a true guard goes with values in range; that a step leads to one of
 // the targets; that the transition is enabled.
@@ -43,30 +41,29 @@ pub struct Test {
     pub count: usize,
 }
 
-// Whether the edge at record `at` is one of this transition from this node.
-fn carries(file: &[u8], node: usize, transition: usize, at: usize) -> bool
-    requires { ⌜ 8 * at + 8 ≤ length (now file) ⌝ }
-    ensures { λ r. ⌜ r ≡ carries (now (file .entry)) node transition at ⌝ }
+// Whether the edge is one of this transition from this node.
+fn carries(node: usize, transition: usize, edge: Edge) -> bool
+    ensures { λ r. ⌜ r ≡ carries node transition edge ⌝ }
 {
-    if word_at(file, 8 * at + 2) != node {
+    if edge.from != node {
         return false;
     }
-    byte_at(file, 8 * at + 1) as usize == transition
+    edge.transition == transition
 }
 
 // The nodes that a step may lead to: the edges' targets, and the node itself where it may be kept.
-fn marks(file: &[u8], outline: Outline, node: usize, transition: usize, keep: bool) -> [bool; 32]
-    requires readable { ⌜ readOf (now file) ≡ Reading.Readable outline ⌝ }
-    requires there { ⌜ node < outline .nodes ⌝ }
-    ensures { λ r. ⌜ r ≡ marksOf (now (file .entry)) outline node transition keep ⌝ }
+fn marks(file: &[u8], diagram: Diagram, node: usize, transition: usize, keep: bool) -> [bool; 32]
+    requires loaded { ⌜ Loaded (now file) diagram ⌝ }
+    requires there { ⌜ node < diagram .nodes ⌝ }
+    ensures { λ r. ⌜ r ≡ marksOf (now (file .entry)) diagram node transition keep ⌝ }
 {
     let mut marks = [false; 32];
     marks[node] = keep;
     let mut e: usize = 0;
-    while e < outline.edges {
-        let at = outline.edge + e;
-        if carries(file, node, transition, at) {
-            let to = word_at(file, 8 * at + 4);
+    while e < diagram.edges {
+        let edge = edge_of(file, diagram, e);
+        if carries(node, transition, edge) {
+            let to = edge.to;
             marks[to] = true;
         }
         e += 1;
@@ -75,17 +72,17 @@ fn marks(file: &[u8], outline: Outline, node: usize, transition: usize, keep: bo
 }
 
 // The assertions of those of the first n nodes that are marked.
-fn choose(marks: [bool; 32], nodes: [usize; 32], n: usize) -> Targets
+fn choose(marks: [bool; 32], assertions: [usize; 32], n: usize) -> Targets
     requires most { ⌜ n ≤ 32 ⌝ }
-    requires small { ⌜ ((i : ℕ) → i < n → getD nodes i 0 ≤ 4096) ⌝ }
-    ensures { λ r. ⌜ r ≡ chosenOf marks nodes n ⌝ }
+    requires small { ⌜ ((i : ℕ) → i < n → getD assertions i 0 ≤ 4096) ⌝ }
+    ensures { λ r. ⌜ r ≡ chosenOf marks assertions n ⌝ }
 {
     let mut places = [0u16; 32];
     let mut count: usize = 0;
     let mut i: usize = 0;
     while i < n {
         if marks[i] {
-            places[count] = (nodes[i] + 1) as u16;
+            places[count] = assertions[i] as u16;
             count += 1;
         }
         i += 1;
@@ -113,30 +110,6 @@ fn none() -> Targets
     }
 }
 
-// Where expression i of the property stands.
-pub fn claimed_at(file: &[u8], outline: Outline, i: usize) -> usize
-    requires { ⌜ readOf (now file) ≡ Reading.Readable outline ⌝ }
-    ensures { λ r. ⌜ r ≡ claimedAt (now (file .entry)) outline i ⌝ }
-{
-    let found = truths(file, outline.vars, i, outline.property + 1);
-    match found {
-        Walked::End(end) => end,
-        Walked::Refused(_, _) => 0,
-    }
-}
-
-// Where the q that node i must imply stands.
-pub fn q_at(file: &[u8], outline: Outline, i: usize) -> usize
-    requires readable { ⌜ readOf (now file) ≡ Reading.Readable outline ⌝ }
-    requires small { ⌜ i < outline .nodes ⌝ }
-    ensures { λ r. ⌜ r ≡ qAt (now (file .entry)) outline i ⌝ }
-{
-    if byte_at(file, 8 * outline.property + 1) == 1 {
-        return claimed_at(file, outline, 0);
-    }
-    claimed_at(file, outline, i + 1)
-}
-
 fn prepared(premise: usize, conclusion: Conclusion, transition: usize, targets: Targets) -> Test
     ensures { λ r. ⌜ r ≡ preparedOf premise conclusion transition targets ⌝ }
 {
@@ -150,47 +123,41 @@ fn prepared(premise: usize, conclusion: Conclusion, transition: usize, targets: 
     }
 }
 
-// The test of a condition, where `nodes` and `transitions` have their records.
-pub fn test_of(
-    file: &[u8],
-    outline: Outline,
-    nodes: [usize; 32],
-    transitions: [usize; 32],
-    condition: Condition,
-) -> Test
-    requires readable { ⌜ readOf (now file) ≡ Reading.Readable outline ⌝ }
-    requires nodes { ⌜ nodes ≡ nodePlaces (now file) outline ⌝ }
-    requires transitions { ⌜ transitions ≡ transitionPlaces (now file) outline ⌝ }
-    requires listed { ⌜ Listed (now file) outline condition ⌝ }
-    ensures { λ r. ⌜ r ≡ testOf (now (file .entry)) outline condition ⌝ }
+// The test of a condition.
+pub fn test_of(file: &[u8], diagram: Diagram, condition: Condition) -> Test
+    requires loaded { ⌜ Loaded (now file) diagram ⌝ }
+    requires listed { ⌜ Listed (now file) diagram condition ⌝ }
+    ensures { λ r. ⌜ r ≡ testOf (now (file .entry)) diagram condition ⌝ }
 {
+    let assertions = diagram.assertions;
+    let steps = diagram.steps;
     match condition {
         Condition::Start => {
-            let all = choose([true; 32], nodes, outline.nodes);
-            prepared(outline.vars + 1, Conclusion::SomeTarget, 0, all)
+            let all = choose([true; 32], assertions, diagram.nodes);
+            prepared(diagram.start, Conclusion::SomeTarget, 0, all)
         }
         Condition::Entry => {
-            let all = choose([true; 32], nodes, outline.nodes);
-            prepared(claimed_at(file, outline, 0), Conclusion::SomeTarget, 0, all)
+            let all = choose([true; 32], assertions, diagram.nodes);
+            prepared(claimed_at(file, diagram, 0), Conclusion::SomeTarget, 0, all)
         }
         Condition::Cover(n) => {
-            let q = one(q_at(file, outline, n));
-            prepared(nodes[n] + 1, Conclusion::SomeTarget, 0, q)
+            let q = one(q_at(file, diagram, n));
+            prepared(assertions[n], Conclusion::SomeTarget, 0, q)
         }
         Condition::Range(n, t) => {
-            let place = transitions[t];
-            prepared(nodes[n] + 1, Conclusion::ValuesInRange, place, none())
+            let step = steps[t];
+            prepared(assertions[n], Conclusion::ValuesInRange, step, none())
         }
         Condition::Step(n, t) => {
-            let place = transitions[t];
-            let keep = double_of(file, outline, n) != t;
-            let marks = marks(file, outline, n, t, keep);
-            let targets = choose(marks, nodes, outline.nodes);
-            prepared(nodes[n] + 1, Conclusion::Reached, place, targets)
+            let step = steps[t];
+            let keep = double_of(file, diagram, n) != t;
+            let marks = marks(file, diagram, n, t, keep);
+            let targets = choose(marks, assertions, diagram.nodes);
+            prepared(assertions[n], Conclusion::Reached, step, targets)
         }
         Condition::Enabling(n, t) => {
-            let place = transitions[t];
-            prepared(nodes[n] + 1, Conclusion::Enabled, place, none())
+            let step = steps[t];
+            prepared(assertions[n], Conclusion::Enabled, step, none())
         }
     }
 }

@@ -16,8 +16,7 @@ use successors::next_in;
 ghost use mathlib.Core.Path.{_≡_};
 ghost use Prim.Native.Nat.{ℕ, _≤_, _<_};
 ghost use lib.ListN.{getD, take};
-ghost use Rattle.records.specs.Kind.{truth as truthSort};
-ghost use Rattle.expressions.specs.Expression.{partAt, Fits, Spans};
+ghost use Rattle.expressions.specs.Expression.{Spans, TruthFits};
 ghost use Rattle.states.specs.State.{Within};
 ghost use Rattle.boxes.specs.Box.{Part};
 ghost use Rattle.testing.specs.Testing.{someHolds, concludesOf, passesOf, TestFits};
@@ -33,7 +32,7 @@ fn some_holds(
 ) -> bool
     requires spans { ⌜ Spans (now file) (now spans) ⌝ }
     requires most { ⌜ count ≤ 32 ⌝ }
-    requires fits { ⌜ ((i : ℕ) → i < count → Fits 16 truthSort (partAt (now file) (getD places i 0)) state) ⌝ }
+    requires fits { ⌜ ((i : ℕ) → i < count → TruthFits (now file) (getD places i 0) state) ⌝ }
     ensures { λ r. ⌜ r ≡ someHolds (now (file .entry)) (take count places) state ⌝ }
 {
     let mut i: usize = 0;
@@ -51,7 +50,7 @@ fn some_holds(
 fn some_in(file: &[u8], spans: &[u16; 4096], places: [u16; 32], count: usize, b: Box) -> Seen
     requires spans { ⌜ Spans (now file) (now spans) ⌝ }
     requires most { ⌜ count ≤ 32 ⌝ }
-    requires fits { ⌜ ((i : ℕ) → i < count → Fits 16 truthSort (partAt (now file) (getD places i 0)) (b .low)) ⌝ }
+    requires fits { ⌜ ((i : ℕ) → i < count → TruthFits (now file) (getD places i 0) (b .low)) ⌝ }
     ensures { λ r. ⌜ r ≡ someIn (now (file .entry)) (take count places) b ⌝ }
 {
     let mut seen = Seen::No;

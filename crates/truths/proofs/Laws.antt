@@ -3,3 +3,4 @@ pub mod Truth
 pub mod Any
 pub mod First
 pub mod Answer
+pub mod Table

@@ -1,3 +1,4 @@
 -- Truths, and tests of numbers in a row.
 pub mod Truth
 pub mod Search
+pub mod Table

@@ -5,10 +5,9 @@ use Prim.Native.Nat.{ℕ, _+_, _*_}
 use lib.ListN.{replicate}
 use lib.Dec.{ltb, leb}
 use lib.IntN.{ℤ, pos}
-use Rattle.parsing.specs.declared.Outline.{Outline}
-use Rattle.reading.specs.declared.Reading.{Reading}
-use Rattle.reading.specs.Read.{readOf}
-use Rattle.states.specs.State.{lowsOf, highsOf}
+use Rattle.diagrams.specs.declared.Diagram.{Diagram}
+use Rattle.diagrams.specs.declared.Found.{Found}
+use Rattle.diagrams.specs.Diagram.{foundOf, diagramOf}
 use Rattle.states.specs.Number.{countOf, stateOf, numberOf}
 use Rattle.truths.specs.Search.{firstFailing}
 use Rattle.conditions.specs.Condition.{totalOf, conditionAt, refusalNumber, nodeNumber, transitionNumber}
@@ -18,14 +17,14 @@ use Rattle.report.specs.declared.Verdict.{Verdict}
 use Rattle.verdicts.specs.declared.Single.{Single}
 
 -- ---- states by number
-unfoldable pub stateCount : List ℕ → Outline → ℕ
-stateCount file o = countOf (lowsOf file (o .vars)) (highsOf file (o .vars))
+unfoldable pub stateCount : Diagram → ℕ
+stateCount g = countOf (g .low) (g .high)
 
-unfoldable pub stateAt : List ℕ → Outline → ℕ → List ℤ
-stateAt file o n = stateOf (lowsOf file (o .vars)) (highsOf file (o .vars)) n
+unfoldable pub stateAt : Diagram → ℕ → List ℤ
+stateAt g n = stateOf (g .low) (g .high) n
 
-unfoldable pub stateNumber : List ℕ → Outline → List ℤ → ℕ
-stateNumber file o state = numberOf (lowsOf file (o .vars)) (highsOf file (o .vars)) state
+unfoldable pub stateNumber : Diagram → List ℤ → ℕ
+stateNumber g state = numberOf (g .low) (g .high) state
 
 -- ---- verdicts
 -- "255 where the condition has none or no condition is named"; "zero .. where no condition is named; an acceptance names none"
@@ -38,55 +37,55 @@ namedOf c number state tests =
     record { number = refusalNumber c; node = nodeNumber c; transition = transitionNumber c; at = number; values = state; tests = tests }
 
 -- the lowest state that breaks a condition, by its number, or how many states there are
-unfoldable pub breakingOf : List ℕ → Outline → Condition → ℕ
-breakingOf file o c = firstFailing (λ n. conditionHolds file o c (stateAt file o n)) (stateCount file o)
+unfoldable pub breakingOf : List ℕ → Diagram → Condition → ℕ
+breakingOf file g c = firstFailing (λ n. conditionHolds file g c (stateAt g n)) (stateCount g)
 
 -- no state breaks it: it "is true at every state in the ranges"
-unfoldable pub isTrue : List ℕ → Outline → Condition → Bool
-isTrue file o c = leb (stateCount file o) (breakingOf file o c)
+unfoldable pub isTrue : List ℕ → Diagram → Condition → Bool
+isTrue file g c = leb (stateCount g) (breakingOf file g c)
 
 -- "If conditions are broken, the lowest is given": the lowest broken condition, by its number, or the total
-unfoldable pub brokenOf : List ℕ → Outline → ℕ
-brokenOf file o = firstFailing (λ c. isTrue file o (conditionAt file o c)) (totalOf file o)
+unfoldable pub brokenOf : List ℕ → Diagram → ℕ
+brokenOf file g = firstFailing (λ c. isTrue file g (conditionAt file g c)) (totalOf file g)
 
 -- and the lowest state that breaks it
-unfoldable pub brokenAt : List ℕ → Outline → ℕ
-brokenAt file o = breakingOf file o (conditionAt file o (brokenOf file o))
+unfoldable pub brokenAt : List ℕ → Diagram → ℕ
+brokenAt file g = breakingOf file g (conditionAt file g (brokenOf file g))
 
 -- document 02, item 2: the tests made. There are S states. Where condition k is named, with state n, it has been tested up to there, and those before it
 -- at every state: k × S + n + 1. An accepted file: the total × S. Otherwise none
-unfoldable pub testsOf : List ℕ → Reading → ℕ
-testsOf file (Reading.Readable o) =
-    cond (ltb (brokenOf file o) (totalOf file o))
-    (brokenOf file o * stateCount file o + brokenAt file o + 1)
-    (totalOf file o * stateCount file o)
-testsOf file (Reading.Refused number place) = 0
+unfoldable pub testsOf : List ℕ → Diagram → ℕ
+testsOf file g =
+    cond (ltb (brokenOf file g) (totalOf file g)) (brokenOf file g * stateCount g + brokenAt file g + 1) (totalOf file g * stateCount g)
 
 -- of a readable file: "the first untrue condition is named with a state that breaks it", or "for 0 the total"
-unfoldable pub judgedOf : List ℕ → Outline → Verdict
-judgedOf file o =
-    cond (ltb (brokenOf file o) (totalOf file o))
-    (namedOf (conditionAt file o (brokenOf file o)) (brokenOf file o) (stateAt file o (brokenAt file o)) (testsOf file (Reading.Readable o)))
-    (unnamedOf 0 (totalOf file o) (testsOf file (Reading.Readable o)))
+unfoldable pub judgedOf : List ℕ → Diagram → Verdict
+judgedOf file g =
+    cond (ltb (brokenOf file g) (totalOf file g))
+    (namedOf (conditionAt file g (brokenOf file g)) (brokenOf file g) (stateAt g (brokenAt file g)) (testsOf file g))
+    (unnamedOf 0 (totalOf file g) (testsOf file g))
 
-unfoldable pub verdictBy : List ℕ → Reading → Verdict
-verdictBy file (Reading.Readable o) = judgedOf file o
-verdictBy file (Reading.Refused number place) = unnamedOf number place (testsOf file (Reading.Refused number place))
+unfoldable pub verdictBy : List ℕ → Found → Verdict
+verdictBy file (Found.Diagram o) = judgedOf file (diagramOf file o)
+verdictBy file (Found.Refused number place) = unnamedOf number place 0
+
+unfoldable pub verdictOf : List ℕ → Verdict
+verdictOf file = verdictBy file (foundOf file)
 
 -- "1. The report buffer is under 32 bytes.": `room` is its length
 unfoldable pub checkOf : List ℕ → ℕ → Verdict
-checkOf file room = cond (ltb room 32) (unnamedOf 1 0 0) (verdictBy file (readOf file))
+checkOf file room = cond (ltb room 32) (unnamedOf 1 0 0) (verdictOf file)
 
 -- ---- the single test: "one of the refusals tried from 2 through 12, else holds or fails"
-unfoldable pub singleJudged : List ℕ → Outline → ℕ → ℕ → Single
-singleJudged file o condition state =
-    cond (leb (totalOf file o) condition) (Single.Refused 11 0)
-    (cond (leb (stateCount file o) state) (Single.Refused 12 0)
-    (cond (conditionHolds file o (conditionAt file o condition) (stateAt file o state)) Single.Holds Single.Fails))
+unfoldable pub singleJudged : List ℕ → Diagram → ℕ → ℕ → Single
+singleJudged file g condition state =
+    cond (leb (totalOf file g) condition) (Single.Refused 11 0)
+    (cond (leb (stateCount g) state) (Single.Refused 12 0)
+    (cond (conditionHolds file g (conditionAt file g condition) (stateAt g state)) Single.Holds Single.Fails))
 
-unfoldable pub singleBy : List ℕ → Reading → ℕ → ℕ → Single
-singleBy file (Reading.Readable o) condition state = singleJudged file o condition state
-singleBy file (Reading.Refused number place) condition state = Single.Refused number place
+unfoldable pub singleBy : List ℕ → Found → ℕ → ℕ → Single
+singleBy file (Found.Diagram o) condition state = singleJudged file (diagramOf file o) condition state
+singleBy file (Found.Refused number place) condition state = Single.Refused number place
 
 unfoldable pub singleOf : List ℕ → ℕ → ℕ → Single
-singleOf file condition state = singleBy file (readOf file) condition state
+singleOf file condition state = singleBy file (foundOf file) condition state

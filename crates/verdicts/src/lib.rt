@@ -2,35 +2,32 @@
 use boxes::Box;
 use conditions::Condition;
 use conditions::condition_at;
+use conditions::node_number;
+use conditions::refusal_number;
 use conditions::total;
+use conditions::transition_number;
+use diagrams::Diagram;
+use diagrams::Found;
+use diagrams::diagram_of;
+use diagrams::find;
 use expressions::holds;
 use expressions::spans::spans_of;
-use parsing::Outline;
-use reading::Reading;
-use reading::read;
 use report::Verdict;
 use searching::Search;
 use searching::Skipped;
 use searching::budget::budget;
 use searching::skip;
-use sections::node_places;
-use sections::transition_places;
 use states::advance;
-use states::count;
-use states::highs;
-use states::lows;
 use states::state_of;
 use testing::test_of;
 use testing::tests::concludes;
 use testing::tests::passes;
 ghost use mathlib.Core.Path.{_≡_};
 ghost use Prim.Native.Nat.{_≤_};
-ghost use Rattle.reading.specs.declared.Reading.{Reading};
-ghost use Rattle.reading.specs.Read.{readOf};
+ghost use Rattle.diagrams.specs.Diagram.{Loaded};
 ghost use Rattle.conditions.specs.Condition.{nodeNumber, transitionNumber};
 ghost use Rattle.expressions.specs.Expression.{Spans};
-ghost use Rattle.verdicts.specs.Verdict.{unnamedOf, namedOf, judgedOf, verdictBy, singleJudged, singleOf};
-ghost use Rattle.verdicts.specs.Model.{modelOf};
+ghost use Rattle.verdicts.specs.Verdict.{unnamedOf, namedOf, judgedOf, verdictOf, singleJudged, singleOf};
 
 // What a single test answers: the refusal that meets it, with its number and its place; or whether the condition holds at the state.
 pub enum Single {
@@ -58,121 +55,35 @@ fn named(condition: Condition, number: u32, state: [i16; 12], tests: u64) -> Ver
     requires { ⌜ (nodeNumber condition ≤ 255) × (transitionNumber condition ≤ 255) ⌝ }
     ensures { λ r. ⌜ r ≡ namedOf condition number state tests ⌝ }
 {
-    match condition {
-        Condition::Start => Verdict {
-            number: 13,
-            node: 255,
-            transition: 255,
-            at: number,
-            values: state,
-            tests,
-        },
-        Condition::Entry => Verdict {
-            number: 14,
-            node: 255,
-            transition: 255,
-            at: number,
-            values: state,
-            tests,
-        },
-        Condition::Cover(n) => Verdict {
-            number: 15,
-            node: n as u8,
-            transition: 255,
-            at: number,
-            values: state,
-            tests,
-        },
-        Condition::Range(n, t) => Verdict {
-            number: 16,
-            node: n as u8,
-            transition: t as u8,
-            at: number,
-            values: state,
-            tests,
-        },
-        Condition::Step(n, t) => Verdict {
-            number: 17,
-            node: n as u8,
-            transition: t as u8,
-            at: number,
-            values: state,
-            tests,
-        },
-        Condition::Enabling(n, t) => Verdict {
-            number: 18,
-            node: n as u8,
-            transition: t as u8,
-            at: number,
-            values: state,
-            tests,
-        },
-    }
-}
-
-// What is looked up once for a file, before its conditions are tested: the ends of the variables' ranges, how many states there are, where the nodes
-// and the transitions stand, and how many conditions there are.
-pub struct Model {
-    pub low: [i16; 12],
-    pub high: [i16; 12],
-    pub states: usize,
-    pub nodes: [usize; 32],
-    pub transitions: [usize; 32],
-    pub total: usize,
-}
-
-fn model_of(file: &[u8], outline: Outline) -> Model
-    requires { ⌜ readOf (now file) ≡ Reading.Readable outline ⌝ }
-    ensures { λ r. ⌜ r ≡ modelOf (now (file .entry)) outline ⌝ }
-{
-    let low = lows(file, outline.vars);
-    let high = highs(file, outline.vars);
-    let states = count(low, high);
-    let nodes = node_places(file, outline.vars, outline.nodes, outline.node);
-    let transitions = transition_places(
-        file,
-        outline.vars,
-        outline.transitions,
-        outline.transition,
-    );
-    Model {
-        low,
-        high,
-        states,
-        nodes,
-        transitions,
-        total: total(file, outline),
+    Verdict {
+        number: refusal_number(condition),
+        node: node_number(condition),
+        transition: transition_number(condition),
+        at: number,
+        values: state,
+        tests,
     }
 }
 
 // The verdict on a readable file, by one condition after the other up to the first break. Each is prepared once, then tested at one state after the
 // other. By boxes, whole boxes of states are asked on the way which states may be skipped: after one state by 64 of them at most, after 64 states by 64
 // times as many, and so on up to what is fair. So a break at one of the first states costs little, and so does a condition that boxes don't decide.
-fn first_break(
-    file: &[u8],
-    outline: Outline,
-    spans: &[u16; 4096],
-    model: Model,
-    by_boxes: bool,
-) -> Verdict
-    requires readable { ⌜ readOf (now file) ≡ Reading.Readable outline ⌝ }
+fn first_break(file: &[u8], diagram: Diagram, spans: &[u16; 4096], by_boxes: bool) -> Verdict
+    requires loaded { ⌜ Loaded (now file) diagram ⌝ }
     requires spans { ⌜ Spans (now file) (now spans) ⌝ }
-    requires model { ⌜ model ≡ modelOf (now file) outline ⌝ }
-    ensures { λ r. ⌜ r ≡ judgedOf (now (file .entry)) outline ⌝ }
+    ensures { λ r. ⌜ r ≡ judgedOf (now (file .entry)) diagram ⌝ }
 {
-    let low = model.low;
-    let high = model.high;
-    let nodes = model.nodes;
-    let transitions = model.transitions;
-    let states = model.states;
-    let total = model.total;
+    let low = diagram.low;
+    let high = diagram.high;
+    let states = diagram.states;
+    let total = total(file, diagram);
     let ranges = Box { low, high };
     let mut number: usize = 0;
     let mut state = low;
     let mut n: usize = 0;
     'conditions: while number < total {
-        let condition = condition_at(file, outline, number);
-        let test = test_of(file, outline, nodes, transitions, condition);
+        let condition = condition_at(file, diagram, number);
+        let test = test_of(file, diagram, condition);
         let premise = test.premise;
         let search = Search { ranges, test };
         let mut ask: usize = 1;
@@ -183,7 +94,7 @@ fn first_break(
         n = 0;
         'states: while n < states {
             // Worked out before the test, which then needn't wait for it.
-            let next = advance(low, high, outline.vars, state);
+            let next = advance(low, high, diagram.vars, state);
             if holds(file, spans, premise, state) {
                 if !concludes(file, spans, low, high, test, state) {
                     break 'states;
@@ -209,7 +120,7 @@ fn first_break(
         number += 1;
     }
     if number < total {
-        let broken = condition_at(file, outline, number);
+        let broken = condition_at(file, diagram, number);
         return named(
             broken,
             number as u32,
@@ -221,43 +132,39 @@ fn first_break(
 }
 
 // The verdict on a readable file.
-fn judge(file: &[u8], outline: Outline, by_boxes: bool) -> Verdict
-    requires { ⌜ readOf (now file) ≡ Reading.Readable outline ⌝ }
-    ensures { λ r. ⌜ r ≡ judgedOf (now (file .entry)) outline ⌝ }
+fn judge(file: &[u8], diagram: Diagram, by_boxes: bool) -> Verdict
+    requires { ⌜ Loaded (now file) diagram ⌝ }
+    ensures { λ r. ⌜ r ≡ judgedOf (now (file .entry)) diagram ⌝ }
 {
     let spans = spans_of(file);
-    first_break(file, outline, &spans, model_of(file, outline), by_boxes)
+    first_break(file, diagram, &spans, by_boxes)
 }
 
 // The verdict on a file, the same with boxes and by the loops alone.
 pub fn verdict(file: &[u8], by_boxes: bool) -> Verdict
-    ensures { λ r. ⌜ r ≡ verdictBy (now (file .entry)) (readOf (now (file .entry))) ⌝ }
+    ensures { λ r. ⌜ r ≡ verdictOf (now (file .entry)) ⌝ }
 {
-    let found = read(file);
+    let found = find(file);
     match found {
-        Reading::Readable(outline) => judge(file, outline, by_boxes),
-        Reading::Refused(number, place) => unnamed(number, place as u32, 0),
+        Found::Diagram(outline) => judge(file, diagram_of(file, outline), by_boxes),
+        Found::Refused(number, place) => unnamed(number, place as u32, 0),
     }
 }
 
 // The single test of a readable file.
-fn tested(file: &[u8], outline: Outline, condition: usize, state: usize) -> Single
-    requires { ⌜ readOf (now file) ≡ Reading.Readable outline ⌝ }
-    ensures { λ r. ⌜ r ≡ singleJudged (now (file .entry)) outline condition state ⌝ }
+fn tested(file: &[u8], diagram: Diagram, condition: usize, state: usize) -> Single
+    requires { ⌜ Loaded (now file) diagram ⌝ }
+    ensures { λ r. ⌜ r ≡ singleJudged (now (file .entry)) diagram condition state ⌝ }
 {
-    let model = model_of(file, outline);
-    if model.total <= condition {
+    if total(file, diagram) <= condition {
         return Single::Refused(11, 0);
     }
-    if model.states <= state {
+    if diagram.states <= state {
         return Single::Refused(12, 0);
     }
-    let low = model.low;
-    let high = model.high;
-    let nodes = model.nodes;
-    let transitions = model.transitions;
-    let condition = condition_at(file, outline, condition);
-    let test = test_of(file, outline, nodes, transitions, condition);
+    let low = diagram.low;
+    let high = diagram.high;
+    let test = test_of(file, diagram, condition_at(file, diagram, condition));
     let s = state_of(low, high, state);
     let spans = spans_of(file);
     if passes(file, &spans, low, high, test, s) {
@@ -271,9 +178,9 @@ fn tested(file: &[u8], outline: Outline, condition: usize, state: usize) -> Sing
 pub fn answer(file: &[u8], condition: usize, state: usize) -> Single
     ensures { λ r. ⌜ r ≡ singleOf (now (file .entry)) condition state ⌝ }
 {
-    let found = read(file);
+    let found = find(file);
     match found {
-        Reading::Readable(outline) => tested(file, outline, condition, state),
-        Reading::Refused(number, place) => Single::Refused(number, place),
+        Found::Diagram(outline) => tested(file, diagram_of(file, outline), condition, state),
+        Found::Refused(number, place) => Single::Refused(number, place),
     }
 }

@@ -2,10 +2,10 @@
 -- Assumes nothing.
 use mathlib.Core.Path.{sym, _∙_}
 use native.Mathlib.Omega.{arith}
-use borrow.Author.Needs.{needs}
-use Rattle.reading.proofs.Laws.Readable.{nodes-within}
+use Rattle.diagrams.proofs.Laws.Diagram.{promised}
 use Rattle.conditions.proofs.Laws.Condition.{Move, condition-opening}
 use Rattle.conditions.proofs.Steps.Condition.{double-few, laid-cover, laid-move, moved-enabling, moved-before, moved-after}
+use borrow.Author.Needs.{needs}
 use Rattle.conditions.proofs.condition_at.Statement.{statement}
 use Rattle.conditions.proofs.condition_at.Tie as tie
 
@@ -13,7 +13,7 @@ use Rattle.conditions.proofs.condition_at.Tie as tie
 abbrev start : tie.Else2 → tie.Start
 start c = c .before .before .before .before .before
 
-move : (c : tie.Else2) → Move (start c .args .file .now) (start c .args .outline) (c .before .before .layout .result) (start c .args .number)
+move : (c : tie.Else2) → Move (start c .args .file .now) (start c .args .diagram) (c .before .before .layout .result) (start c .args .number)
 move c = laid-move _ _ (start c .pre .0) (c .before .before .layout .ensures) _ (c .if2 .left) (start c .pre .1)
 
 opening-requires : tie.Need-opening-requires
@@ -23,7 +23,7 @@ returns : tie.Need-returns
 returns c = rw (c .before .if1 .taken) (c .opening .ensures ∙ sym (condition-opening _ _ (c .before .before .before .pre .0)))
 
 layout-requires : tie.Need-layout-requires
-layout-requires c κs = search needs
+layout-requires c κs = promised _ _ (c .before .before .pre .0) .transitions
 
 sub-t11 : tie.Need-sub-t11
 sub-t11 c = search needs
@@ -43,7 +43,7 @@ div-node : tie.Need-div-node
 div-node c = move (c .before .before) .some
 
 add-node : tie.Need-add-node
-add-node c = omega (arith, move (c .before .before .before) .node, nodes-within _ _ (start (c .before .before .before) .pre .0) .1)
+add-node c = omega (arith, move (c .before .before .before) .node, promised _ _ (start (c .before .before .before) .pre .0) .nodes .1)
 
 rem-k : tie.Need-rem-k
 rem-k c = move (c .before .before .before .before) .some

@@ -1,17 +1,17 @@
 -- `conditions::total` meets its contract, by the layout.
 -- Assumes nothing.
 use native.Mathlib.Omega.{arith}
-use borrow.Author.Needs.{needs}
+use Rattle.diagrams.proofs.Laws.Diagram.{promised}
 use Rattle.conditions.proofs.Laws.Condition.{Bounds}
 use Rattle.conditions.proofs.Steps.Condition.{laid-bounds, laid-total}
 use Rattle.conditions.proofs.total.Statement.{statement}
 use Rattle.conditions.proofs.total.Tie as tie
 
-bounds : (c : tie.After-layout) → Bounds (c .before .before .args .file .now) (c .before .before .args .outline) (c .layout .result)
+bounds : (c : tie.After-layout) → Bounds (c .before .before .args .file .now) (c .before .before .args .diagram) (c .layout .result)
 bounds c = laid-bounds _ _ (c .before .before .pre) (c .layout .ensures)
 
 layout-requires : tie.Need-layout-requires
-layout-requires c κs = search needs
+layout-requires c κs = promised _ _ (c .before .pre) .transitions
 
 sub-nodes : tie.Need-sub-nodes
 sub-nodes c = omega (arith, bounds (c .before .before) .from)

@@ -9,7 +9,6 @@
 use mathlib.Core.Path.{_≡_, refl, sym}
 use mathlib.Core.Bool.{Bool, true, false, not, cond, _&&_}
 use Prim.Native.Nat.{ℕ}
-use lib.Dec.{eqb}
 use lib.IntN.{ℤ}
 use lib.Signed.{leZ, ltZ, _≤ℤ_, ≤ℤ-refl}
 use mir.Syntax.{Width}
@@ -20,12 +19,14 @@ use Rattle.integers.proofs.Laws.Parts.{by-test, ints, within-fits}
 use Rattle.integers.proofs.Laws.Equality.{eqZ-true, eqZ-refl}
 use Rattle.intervals.specs.Interval.{interval}
 use Rattle.intervals.specs.Interval.{combine as combineOf}
+use Rattle.intervals.proofs.Laws.Combine.{combine-in}
 use Rattle.expressions.specs.Expression.{indicatorOf, compareOf}
-use Rattle.expressions.proofs.Laws.Sound.{combine-in, indicator-in}
+use Rattle.expressions.proofs.Laws.Connect.{indicator-true, indicator-false, compare-by}
+use Rattle.expressions.proofs.Laws.Sound.{indicator-in, constant-in}
 use Rattle.domains.specs.declared.seen.Seen.{Seen}
 use Rattle.domains.specs.declared.seen.Seen.the-variants.{Yes, No, Unsure}
 use Rattle.domains.specs.declared.extents.Extent.{Extent}
-use Rattle.domains.specs.Seen.{Says, oppositeOf, bothOf}
+use Rattle.domains.specs.Seen.{Says}
 use Rattle.domains.specs.Extent.{cutOf, extentOf, widerOf, combineIn, indicatorIn, allAtMost, allAbove, atMostIn, compareIn}
 use Rattle.domains.proofs.Laws.Seen.{opposite-says, both-says}
 
@@ -76,9 +77,9 @@ unfolding combineIn
 combine-in-extent kind x y s h k = let c = combine-in kind h k in extent-in _ _ _ s (record { above = c .above; below = c .below })
 
 pub indicator-in-extent : (p : Seen) (a : Bool) → Says p a → In (indicatorOf a) bounds → In (indicatorOf a) (indicatorIn p .span)
-unfolding Says indicatorOf indicatorIn
-indicator-in-extent Yes a h s = extent-in _ _ _ s (rw h (record { above = omega ints; below = omega ints }))
-indicator-in-extent No a h s = extent-in _ _ _ s (rw h (record { above = omega ints; below = omega ints }))
+unfolding Says indicatorIn
+indicator-in-extent Yes a h s = extent-in _ _ _ s (rw (h, indicator-true) (constant-in _))
+indicator-in-extent No a h s = extent-in _ _ _ s (rw (h, indicator-false) (constant-in _))
 indicator-in-extent (Unsure v) a h s = extent-in _ _ _ s (indicator-in a)
 
 -- ---- comparisons
@@ -101,13 +102,9 @@ less-not : (a b : ℤ) → not (leZ b a) ≡ ltZ a b
 less-not a b = by-test (leZ b a) (λ t. not t ≡ ltZ a b) (λ e. let f : ltZ a b ≡ false = omega ints in sym f) (λ e. let f : ltZ a b ≡ true = omega ints in sym f)
 
 pub compare-says : (kind : ℕ) (x y : Extent) (a b : ℤ) → In a (x .span) → In b (y .span) → Says (compareIn kind x y) (compareOf kind a b)
-unfolding compareIn compareOf
+unfolding compareIn
 compare-says kind x y a b h k =
     let m = at-most-says x y a b h k in
     let n = at-most-says y x b a k h in
-    let l = cond (eqb kind 0x28) (oppositeOf (atMostIn y x)) (atMostIn x y) in
-    let r = cond (eqb kind 0x28) (ltZ a b) (leZ a b) in
-    by-test (eqb kind 0x27) (λ t. Says (cond t (bothOf (atMostIn x y) (atMostIn y x)) l) (cond t (eqZ a b) r))
-    (λ e. rw (equal-both a b) at (both-says _ _ _ _ m n))
-    (λ e. by-test (eqb kind 0x28) (λ t. Says (cond t (oppositeOf (atMostIn y x)) (atMostIn x y)) (cond t (ltZ a b) (leZ a b)))
-    (λ e. rw (less-not a b) at (opposite-says _ _ n)) (λ e. m))
+    compare-by (Says (compareIn kind x y)) kind a b (λ e. rw e (rw (equal-both a b) at (both-says _ _ _ _ m n)))
+    (λ e f. rw (e, f) (rw (less-not a b) at (opposite-says _ _ n))) (λ e f. rw (e, f) m)

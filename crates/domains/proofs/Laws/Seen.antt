@@ -2,14 +2,16 @@
 --     opposite-says, both-says, either-says, implies-says, implied-says     not, and, or, implies
 --     both-asked                                              and, where the right one is asked only behind a true left one
 --     connect-says, literal-says                              a connective by its kind; true and false
+--     literal-true, literal-false                             what is seen of these by their kinds
 --     decided                                                 the right operand doesn't count where the left one decides
 --     never-true                                              what is true is not seen never to be
 --     never-implies, never-implied, sure-either               what is seen of one operand is enough
 --     either-none, none-either, either-assoc                  or, of none and of several
 --     yes-says, no-says                                       what is seen for sure is so
+--     says-yes, says-no                                       what is so may be seen for sure
 -- Assumes nothing.
 use mathlib.Core.Path.{_≡_, refl, ap}
-use mathlib.Core.Bool.{Bool, true, false, not, cond, _&&_, _||_, Bool·beq, true≢false, or-false, or-true}
+use mathlib.Core.Bool.{Bool, true, false, not, cond, _&&_, _||_, Bool·beq, true≢false, or-comm}
 use Prim.Native.Nat.{ℕ}
 use lib.Dec.{eqb}
 use borrow.Author.Tests.{eqb-true}
@@ -17,6 +19,7 @@ use Rattle.truths.specs.Truth.{implies}
 use Rattle.truths.proofs.Laws.Truth.{implies-or}
 use Rattle.integers.proofs.Laws.Parts.{by-test}
 use Rattle.expressions.specs.Expression.{connectOf}
+use Rattle.expressions.proofs.Laws.Connect.{connect-by}
 use Rattle.domains.specs.declared.seen.Seen.{Seen}
 use Rattle.domains.specs.declared.seen.Seen.the-variants.{Yes, No, Unsure}
 use Rattle.domains.specs.Seen.{Says, oppositeOf, bothOf, eitherOf, impliesIn, impliedIn, sameOf, connectIn, decidesOf, literalIn, sureOf, neverOf}
@@ -45,10 +48,26 @@ module _ {p : Seen} {a : Bool} (h : Says p a) where
   unfolding Says
   no-says e = rw e at h
 
+pub says-yes : {a : Bool} → a ≡ true → Says Yes a
+unfolding Says
+says-yes e = e
+
+pub says-no : {a : Bool} → a ≡ false → Says No a
+unfolding Says
+says-no e = e
+
 -- ---- the connectives
 pub literal-says : (kind : ℕ) → Says (literalIn kind) (eqb kind 0x20)
 unfolding Says literalIn
 literal-says kind = by-test (eqb kind 0x20) (λ t. Says (cond t Yes No) t) (λ e. refl) (λ e. refl)
+
+pub literal-true : literalIn 0x20 ≡ Yes
+unfolding literalIn
+literal-true = refl
+
+pub literal-false : literalIn 0x21 ≡ No
+unfolding literalIn
+literal-false = refl
 
 pub opposite-says : (p : Seen) (a : Bool) → Says p a → Says (oppositeOf p) (not a)
 unfolding Says oppositeOf
@@ -74,21 +93,23 @@ unfolding eitherOf
 either-says p q a b h k = rw (or-not a b) at (opposite-says _ _ (both-says _ _ _ _ (opposite-says p a h) (opposite-says q b k)))
 
 -- here too, where the premise is false
+asked-says : (p q : Seen) (a b : Bool) → Says p a → (a ≡ true → Says q b) → Says (impliesIn p q) (not a || b)
+unfolding Says oppositeOf bothOf eitherOf impliesIn
+asked-says Yes Yes a b h k = rw h (k h)
+asked-says Yes No a b h k = rw h (k h)
+asked-says Yes (Unsure w) a b h k = tt
+asked-says No q a b h k = rw h
+asked-says (Unsure v) Yes true b h k = k refl
+asked-says (Unsure v) Yes false b h k = refl
+asked-says (Unsure v) No a b h k = tt
+asked-says (Unsure v) (Unsure w) a b h k = tt
+
 pub implies-says : (p q : Seen) (a b : Bool) → Says p a → (a ≡ true → Says q b) → Says (impliesIn p q) (implies a b)
-unfolding Says oppositeOf bothOf eitherOf impliesIn implies
-implies-says Yes Yes a b h k = rw h (k h)
-implies-says Yes No a b h k = rw h (k h)
-implies-says Yes (Unsure w) a b h k = tt
-implies-says No q a b h k = rw h
-implies-says (Unsure v) Yes true b h k = k refl
-implies-says (Unsure v) Yes false b h k = refl
-implies-says (Unsure v) No a b h k = tt
-implies-says (Unsure v) (Unsure w) a b h k = tt
+implies-says p q a b h k = rw (implies-or a b) at (asked-says p q a b h k)
 
 pub implied-says : (p q : Seen) (a b : Bool) → Says p a → Says q b → Says (impliedIn q p) (implies a b)
-unfolding impliedIn implies
-implied-says p q true b h k = rw (or-false b) at (either-says q (oppositeOf p) b false k (opposite-says p true h))
-implied-says p q false b h k = rw (or-true b) at (either-says q (oppositeOf p) b true k (opposite-says p false h))
+unfolding impliedIn
+implied-says p q a b h k = rw (or-comm b (not a), implies-or a b) at (either-says q (oppositeOf p) b (not a) k (opposite-says p a h))
 
 same-says : (p q : Seen) (a b : Bool) → Says p a → Says q b → Says (sameOf p q) (Bool·beq a b)
 unfolding Says sameOf
@@ -98,16 +119,10 @@ same-says (Unsure v) q a b h k = tt
 
 module _ (kind : ℕ) (p q : Seen) where
   pub connect-says : (a b : Bool) → Says p a → Says q b → Says (connectIn kind p q) (connectOf kind a b)
-  unfolding connectIn connectOf
+  unfolding connectIn
   connect-says a b h k =
-      let i = cond (eqb kind 0x25) (impliesIn p q) (sameOf p q) in
-      let j = cond (eqb kind 0x25) (not a || b) (Bool·beq a b) in
-      let o = cond (eqb kind 0x24) (eitherOf p q) i in
-      let n = cond (eqb kind 0x24) (a || b) j in
-      by-test (eqb kind 0x23) (λ t. Says (cond t (bothOf p q) o) (cond t (a && b) n)) (λ e. both-says p q a b h k)
-      (λ e. by-test (eqb kind 0x24) (λ t. Says (cond t (eitherOf p q) i) (cond t (a || b) j)) (λ e. either-says p q a b h k)
-      (λ e. by-test (eqb kind 0x25) (λ t. Says (cond t (impliesIn p q) (sameOf p q)) (cond t (not a || b) (Bool·beq a b)))
-      (λ e. rw (implies-or a b) (implies-says p q a b h (λ d. k))) (λ e. same-says p q a b h k)))
+      connect-by (Says (connectIn kind p q)) kind a b (λ e. rw e (both-says p q a b h k)) (λ e f. rw (e, f) (either-says p q a b h k))
+      (λ e f g. rw (e, f, g) (asked-says p q a b h (λ d. k))) (λ e f g. rw (e, f, g) (same-says p q a b h k))
 
 -- ---- the left operand is enough
 pub decided : (kind : ℕ) (p q : Seen) → decidesOf kind p ≡ true → connectIn kind p p ≡ connectIn kind p q

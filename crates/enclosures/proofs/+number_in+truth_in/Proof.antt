@@ -1,19 +1,21 @@
 -- The evaluators on a box meet their contracts, by the kind of the record. The measure is the levels left. Assumes nothing.
-use mathlib.Core.Path.{_≡_, refl, sym, ap, _∙_}
+use mathlib.Core.Path.{_≡_, refl, sym, _∙_}
 use mathlib.Core.Logic.{⊎-elim}
 use Prim.Native.Nat.{ℕ, _<_}
 use native.Mathlib.Omega.{arith}
 use mir.Syntax.{w64}
 use Rattle.integers.proofs.Laws.Parts.{back}
 use Rattle.records.specs.declared.kinds.Form.the-variants.{Arithmetic, Indicator, Connective, Comparison}
-use Rattle.records.specs.Record.{kindAt, fieldA}
-use Rattle.records.specs.Kind.{within, formOf, signatureOf}
+use Rattle.records.specs.Record.{fieldA}
+use Rattle.records.specs.Kind.{formAt}
 use Rattle.records.specs.Kind.{number as numberSort, truth as truthSort}
+use Rattle.records.proofs.Laws.Kind.{constant-form, variable-form, arithmetic-form, indicator-form, literal-form, negation-form, connective-form}
+use Rattle.records.proofs.Laws.Kind.{comparison-form, arithmetic-row, indicator-row, negation-row, connective-row, comparison-row}
 use Rattle.expressions.proofs.Laws.Expression.{fits-record}
 use Rattle.expressions.proofs.Laws.Operand.{number-kinds, truth-kinds, Two, there, level, one, two}
-use Rattle.domains.specs.Seen.{literalIn}
+use Rattle.domains.proofs.Laws.Seen.{literal-true, literal-false}
 use Rattle.enclosures.proofs.Laws.Enclosure.{number-bounded}
-use Rattle.enclosures.proofs.Steps.Enclosure.{arithmetic, connective, constant-in, variable-in, indicator-in, arithmetic-in}
+use Rattle.enclosures.proofs.Steps.Enclosure.{constant-in, variable-in, indicator-in, arithmetic-in}
 use Rattle.enclosures.proofs.Steps.Enclosure.{literal-in, negation-in, connective-in, decided-in, comparison-in}
 use borrow.Fn.Kinds.{In}
 use borrow.Fn.PlainCycle.{Measures, is, falls, and}
@@ -98,40 +100,33 @@ module _ (t : ℕ) where
   -- ---- the operands
   combined : (c : number-in-lts.Then2 (number-in-claims t) (number-in-at t) number-in.Post)
       → let m = c .before .before .before in let a = m .before .before .before .args in
-      Two (a .levels) numberSort Arithmetic (a .part .now) (a .spans .now) (a .at) (m .after .result .now) (a .b .low)
-  unfolding signatureOf
+      Two (a .levels) numberSort numberSort Arithmetic (a .part .now) (a .spans .now) (a .at) (m .after .result .now) (a .b .low)
   combined c = let m = c .before .before .before in
-      two _ _ _ _ _ _ (m .before .before .before .pre .1) (arithmetic _ (omega arith) (omega arith)) (m .after .ensures) refl
+      two _ _ _ _ _ _ (m .before .before .before .pre .1) (arithmetic-form (omega arith) (omega arith)) (m .after .ensures) arithmetic-row
 
   connected : (c : truth-in-lts.Then2 (truth-in-claims t) (truth-in-at t) truth-in.Post)
       → let m = c .before .before .before in let a = m .before .before .before .args in
-      Two (a .levels) truthSort Connective (a .part .now) (a .spans .now) (a .at) (m .after .result .now) (a .b .low)
-  unfolding signatureOf
+      Two (a .levels) truthSort truthSort Connective (a .part .now) (a .spans .now) (a .at) (m .after .result .now) (a .b .low)
   connected c = let m = c .before .before .before in
-      two _ _ _ _ _ _ (m .before .before .before .pre .1) (connective _ (omega arith) (omega arith)) (m .after .ensures) refl
+      two _ _ _ _ _ _ (m .before .before .before .pre .1) (connective-form (omega arith) (omega arith)) (m .after .ensures) connective-row
 
   compared : (c : truth-in-lts.Joined1 (truth-in-claims t) (truth-in-at t) truth-in.Post)
       → let m = c .before .before in let a = m .before .before .before .args in
-      Two (a .levels) numberSort Comparison (a .part .now) (a .spans .now) (a .at) (m .after .result .now) (a .b .low)
-  unfolding signatureOf
+      Two (a .levels) numberSort numberSort Comparison (a .part .now) (a .spans .now) (a .at) (m .after .result .now) (a .b .low)
   compared c = let m = c .before .before in
       let h = m .before .before .before .pre .1 in
       let k = truth-kinds _ _ _ (h .0) in
-      two _ _ _ _ _ _ h (k .2 (⊎-elim (λ w. absurd (omega arith)) (λ w. omega arith) (c .if1 .came))) (m .after .ensures) refl
+      two _ _ _ _ _ _ h (comparison-form (⊎-elim (λ w. absurd (omega arith)) (λ w. omega arith) (c .if1 .came)) (k .1)) (m .after .ensures) comparison-row
 
   indicated : (c : number-in-lts.Joined1 (number-in-claims t) (number-in-at t) number-in.Post)
-      → formOf (kindAt (c .before .before .before .before .before .args .part .now) 0) ≡ Indicator
-  unfolding formOf within
+      → formAt (c .before .before .before .before .before .args .part .now) 0 ≡ Indicator
   indicated c = let k = number-kinds _ _ _ (c .before .before .before .before .before .pre .1 .0) in
-      let e : kindAt (c .before .before .before .before .before .args .part .now) 0 ≡ 0x15 =
-      ⊎-elim (λ w. absurd (omega arith)) (λ w. omega arith) (c .if1 .came) in
-      ap formOf e
+      indicator-form (⊎-elim (λ w. absurd (omega arith)) (λ w. omega arith) (c .if1 .came))
 
   -- ---- a variable is one of twelve
   named : (c : number-in-lts.At-match-keys2 (number-in-claims t) (number-in-at t) number-in.Post)
       → fieldA (c .before .before .before .before .args .part .now) 0 < 12
-  unfolding formOf within
-  named c = fits-record _ _ _ _ (c .before .before .before .before .pre .1 .0) .variable (ap formOf (c .match .keys2))
+  named c = fits-record _ _ _ _ (c .before .before .before .before .pre .1 .0) .variable (variable-form (c .match .keys2))
 
   -- `number_in`
   number-in-shared-slice-read-kind : number-in-lts.Need-shared-slice-read-kind (number-in-claims t) (number-in-at t) number-in.Post
@@ -197,25 +192,22 @@ module _ (t : ℕ) where
       (rw (c .before .before .before .number-in .ensures) (number-bounded _ _ _), rw (c .number-in2 .ensures) (number-bounded _ _ _))
 
   number-in-truth-in-requires : number-in-lts.Need-truth-in-requires (number-in-claims t) (number-in-at t) number-in.Post
-  unfolding signatureOf
   number-in-truth-in-requires c κs = let h = c .before .before .before .before .before .pre .1 in let l = level _ _ _ _ _ _ h in
-      (omega (arith, c .before .before .before .before .before .pre .0), one _ _ _ _ _ _ h (indicated c) (c .before .before .after .ensures) refl)
+      (omega (arith, c .before .before .before .before .before .pre .0), one _ _ _ _ _ _ h (indicated c) (c .before .before .after .ensures) indicator-row)
 
   number-in-indicator-requires : number-in-lts.Need-indicator-requires (number-in-claims t) (number-in-at t) number-in.Post
   number-in-indicator-requires c κs = tt
 
   number-in-returns : number-in-lts.Need-returns (number-in-claims t) (number-in-at t) number-in.Post
-  unfolding formOf within
   number-in-returns c = let k = c .before .constant in
       (rw (back w64 (k .result) (k .ok), k .ensures) at (c .spanning .ensures))
-      ∙ constant-in (level _ _ _ _ _ _ (c .before .before .before .before .before .before .pre .1)) _ _ (ap formOf (c .before .before .match .keys1))
+      ∙ constant-in (level _ _ _ _ _ _ (c .before .before .before .before .before .before .pre .1)) _ _ (constant-form (c .before .before .match .keys1))
 
   number-in-returns-2 : number-in-lts.Need-returns-2 (number-in-claims t) (number-in-at t) number-in.Post
-  unfolding formOf within
   number-in-returns-2 c = let a = c .before .before .element in let b = c .before .element2 in
       let m = c .before .before .before .before .before .before in
       (rw (back w64 (a .result) (a .ok), a .ensures, back w64 (b .result) (b .ok), b .ensures) at (c .spanning2 .ensures))
-      ∙ variable-in (level _ _ _ _ _ _ (m .before .before .before .before .pre .1)) _ _ (ap formOf (m .match .keys2))
+      ∙ variable-in (level _ _ _ _ _ _ (m .before .before .before .before .pre .1)) _ _ (variable-form (m .match .keys2))
 
   number-in-returns-3 : number-in-lts.Need-returns-3 (number-in-claims t) (number-in-at t) number-in.Post
   number-in-returns-3 c = c .combine .ensures
@@ -241,9 +233,8 @@ module _ (t : ℕ) where
   truth-in-add-first c = let l = there _ _ _ _ _ _ (c .before .before .before .pre .1) in omega (arith, c .before .before .before .pre .1 .1 .0)
 
   truth-in-truth-in-requires : truth-in-lts.Need-truth-in-requires (truth-in-claims t) (truth-in-at t) truth-in.Post
-  unfolding signatureOf formOf within
   truth-in-truth-in-requires c κs = let h = c .before .before .before .before .pre .1 in let l = level _ _ _ _ _ _ h in
-      (omega (arith, c .before .before .before .before .pre .0), one _ _ _ _ _ _ h (ap formOf (c .match .keys3)) (c .before .after .ensures) refl)
+      (omega (arith, c .before .before .before .before .pre .0), one _ _ _ _ _ _ h (negation-form (c .match .keys3)) (c .before .after .ensures) negation-row)
 
   truth-in-opposite-requires : truth-in-lts.Need-opposite-requires (truth-in-claims t) (truth-in-at t) truth-in.Post
   truth-in-opposite-requires c κs = tt
@@ -317,18 +308,17 @@ module _ (t : ℕ) where
       (rw (c .before .before .before .number-in .ensures) (number-bounded _ _ _), rw (c .number-in2 .ensures) (number-bounded _ _ _))
 
   truth-in-returns-2 : truth-in-lts.Need-returns-2 (truth-in-claims t) (truth-in-at t) truth-in.Post
-  unfolding formOf within literalIn
-  truth-in-returns-2 c = literal-in (level _ _ _ _ _ _ (c .before .before .before .before .pre .1)) _ _ (c .match .keys1) refl
+  truth-in-returns-2 c = sym literal-true
+      ∙ literal-in (level _ _ _ _ _ _ (c .before .before .before .before .pre .1)) _ _ (c .match .keys1) (literal-form (omega arith) (omega arith))
 
   truth-in-returns-3 : truth-in-lts.Need-returns-3 (truth-in-claims t) (truth-in-at t) truth-in.Post
-  unfolding formOf within literalIn
-  truth-in-returns-3 c = literal-in (level _ _ _ _ _ _ (c .before .before .before .before .pre .1)) _ _ (c .match .keys2) refl
+  truth-in-returns-3 c = sym literal-false
+      ∙ literal-in (level _ _ _ _ _ _ (c .before .before .before .before .pre .1)) _ _ (c .match .keys2) (literal-form (omega arith) (omega arith))
 
   truth-in-returns-4 : truth-in-lts.Need-returns-4 (truth-in-claims t) (truth-in-at t) truth-in.Post
-  unfolding formOf within
   truth-in-returns-4 c = c .opposite .ensures
       ∙ negation-in (level _ _ _ _ _ _ (c .before .before .before .before .before .before .pre .1)) _ _
-      (c .before .before .before .after .ensures) (c .before .truth-in .ensures) (ap formOf (c .before .before .match .keys3))
+      (c .before .before .before .after .ensures) (c .before .truth-in .ensures) (negation-form (c .before .before .match .keys3))
 
   truth-in-returns-5 : truth-in-lts.Need-returns-5 (truth-in-claims t) (truth-in-at t) truth-in.Post
   truth-in-returns-5 c = c .connect2 .ensures

@@ -8,7 +8,7 @@
 -- Assumes nothing.
 use mathlib.Core.Path.{_≡_, refl}
 use mathlib.Core.List.{List}
-use mathlib.Core.Bool.{Bool, true, false}
+use mathlib.Core.Bool.{true, false}
 use Prim.Native.Nat.{ℕ, zero, suc}
 use native.Mathlib.Omega.{arith}
 use lib.ListN.{getD}
@@ -17,11 +17,13 @@ use Rattle.integers.specs.Interval.{In, bounds, Bounded}
 use Rattle.records.specs.declared.kinds.Form.{Form}
 use Rattle.records.specs.declared.kinds.Form.the-variants.{Constant, Variable, Arithmetic, Indicator, Literal, Negation, Connective, Comparison, Unfit}
 use Rattle.records.specs.Record.{kindAt, fieldA}
-use Rattle.records.specs.Kind.{formAt, signatureOf}
+use Rattle.records.specs.Kind.{formAt}
 use Rattle.records.specs.Kind.{number as numberSort, truth as truthSort}
+use Rattle.records.proofs.Laws.Kind.{arithmetic-row, indicator-row, negation-row, connective-row, comparison-row, number-forms, truth-forms}
 use Rattle.intervals.specs.Interval.{interval}
-use Rattle.expressions.specs.Expression.{partAt, numberBy, truthBy, number, truth, holdsOf, OperandsFit, Fits}
-use Rattle.expressions.proofs.Laws.Expression.{number-opens, truth-opens, fits-opens, fits-record, fits-small}
+use Rattle.expressions.specs.Expression.{partAt, number, truth, holdsOf, Fits}
+use Rattle.expressions.proofs.Laws.Expression.{number-constant, number-variable, number-arithmetic, number-indicator, truth-literal, truth-negation}
+use Rattle.expressions.proofs.Laws.Expression.{truth-connective, truth-comparison, holds-is, fits-level, fits-record, fits-small, fits-one, fits-two}
 use Rattle.expressions.proofs.Laws.Sound.{constant-in}
 use Rattle.states.proofs.Laws.State.{within-at}
 use Rattle.boxes.specs.declared.Box.{Box}
@@ -73,63 +75,88 @@ module _ {b : Box} {state : List ℤ} (inside : Inside b state) where
     truths : (part : List ℕ) → Fits levels truthSort part state → Says (truthIn levels part b) (truth levels part state)
 
   module _ (levels : ℕ) (ih : Sound levels) (part : List ℕ) where
-    abbrev N : List ℕ → ℤ
-    N p = number levels p state
+    -- ---- a number, by the form of its record
+    module _ (h : Fits (suc levels) numberSort part state) where
+      abbrev Lies : Form → Type 0
+      Lies f = formAt part 0 ≡ f → In (number (suc levels) part state) (numberIn (suc levels) part b .span)
 
-    abbrev T : List ℕ → Bool
-    T p = truth levels p state
+      small : In (number (suc levels) part state) bounds
+      small = fits-small (suc levels) part state h
 
-    abbrev M : List ℕ → Extent
-    M p = numberIn levels p b
+      constant-lies : Lies Constant
+      unfolding numberInBy
+      constant-lies is =
+          rw (number-in-opens {below = levels} refl part b is)
+          (extent-in _ _ _ small (rw (number-constant {below = levels} refl part state is) (constant-in _)))
 
-    abbrev S : List ℕ → Seen
-    S p = truthIn levels p b
+      variable-lies : Lies Variable
+      unfolding numberInBy
+      variable-lies is =
+          rw (number-in-opens {below = levels} refl part b is)
+          (extent-in _ _ _ small (rw (number-variable {below = levels} refl part state is) (in-range (fieldA part 0))))
 
-    abbrev Operands : Form → Type 0
-    Operands f = OperandsFit (λ p. Fits levels (signatureOf f .over) p state) levels part (signatureOf f .operands)
+      arithmetic-lies : Lies Arithmetic
+      unfolding numberInBy
+      arithmetic-lies is =
+          let n = number-arithmetic {below = levels} refl part state is in
+          let o = fits-two {below = levels} refl part state is numberSort h arithmetic-row in
+          rw (number-in-opens {below = levels} refl part b is, n)
+          (combine-in-extent _ _ _ (rw n at small) (ih .numbers _ (o .0)) (ih .numbers _ (o .1)))
 
-    number-by : (f : Form) → signatureOf f .sort ≡ numberSort → Operands f → In (numberBy levels N T f part state) bounds
-        → In (numberBy levels N T f part state) (numberInBy levels M S f part b .span)
-    unfolding numberBy numberInBy signatureOf OperandsFit
-    number-by Constant sort o s = extent-in _ _ _ s (constant-in _)
-    number-by Variable sort o s = extent-in _ _ _ s (in-range (fieldA part 0))
-    number-by Arithmetic sort o s = combine-in-extent _ _ _ s (ih .numbers _ (o .0)) (ih .numbers _ (o .1))
-    number-by Indicator sort o s = indicator-in-extent _ _ (ih .truths _ o) s
-    number-by Literal sort o s = absurd (omega arith)
-    number-by Negation sort o s = absurd (omega arith)
-    number-by Connective sort o s = absurd (omega arith)
-    number-by Comparison sort o s = absurd (omega arith)
-    number-by Unfit sort o s = absurd (omega arith)
+      indicator-lies : Lies Indicator
+      unfolding numberInBy
+      indicator-lies is =
+          let n = number-indicator {below = levels} refl part state is in
+          let o = fits-one {below = levels} refl part state is numberSort h indicator-row in
+          rw (number-in-opens {below = levels} refl part b is, n) (indicator-in-extent _ _ (ih .truths _ o) (rw n at small))
 
-    truth-by : (f : Form) → signatureOf f .sort ≡ truthSort → Operands f → Says (truthInBy levels M S f part) (truthBy levels N T f part)
-    unfolding truthBy truthInBy signatureOf OperandsFit
-    truth-by Literal sort o = literal-says (kindAt part 0)
-    truth-by Negation sort o = opposite-says _ _ (ih .truths _ o)
-    truth-by Connective sort o = connect-says _ _ _ _ _ (ih .truths _ (o .0)) (ih .truths _ (o .1))
-    truth-by Comparison sort o = compare-says _ _ _ _ _ (ih .numbers _ (o .0)) (ih .numbers _ (o .1))
-    truth-by Constant sort o = absurd (omega arith)
-    truth-by Variable sort o = absurd (omega arith)
-    truth-by Arithmetic sort o = absurd (omega arith)
-    truth-by Indicator sort o = absurd (omega arith)
-    truth-by Unfit sort o = absurd (omega arith)
+      number-lies : In (number (suc levels) part state) (numberIn (suc levels) part b .span)
+      number-lies =
+          number-forms Lies constant-lies variable-lies arithmetic-lies indicator-lies (formAt part 0)
+          (fits-record (suc levels) numberSort part state h .sort) refl
+
+    -- ---- and a truth
+    module _ (h : Fits (suc levels) truthSort part state) where
+      abbrev Said : Form → Type 0
+      Said f = formAt part 0 ≡ f → Says (truthIn (suc levels) part b) (truth (suc levels) part state)
+
+      literal-said : Said Literal
+      unfolding truthInBy
+      literal-said is =
+          rw (truth-in-opens {below = levels} refl part b is, truth-literal {below = levels} refl part state is) (literal-says (kindAt part 0))
+
+      negation-said : Said Negation
+      unfolding truthInBy
+      negation-said is =
+          let o = fits-one {below = levels} refl part state is truthSort h negation-row in
+          rw (truth-in-opens {below = levels} refl part b is, truth-negation {below = levels} refl part state is) (opposite-says _ _ (ih .truths _ o))
+
+      connective-said : Said Connective
+      unfolding truthInBy
+      connective-said is =
+          let o = fits-two {below = levels} refl part state is truthSort h connective-row in
+          rw (truth-in-opens {below = levels} refl part b is, truth-connective {below = levels} refl part state is)
+          (connect-says _ _ _ _ _ (ih .truths _ (o .0)) (ih .truths _ (o .1)))
+
+      comparison-said : Said Comparison
+      unfolding truthInBy
+      comparison-said is =
+          let o = fits-two {below = levels} refl part state is truthSort h comparison-row in
+          rw (truth-in-opens {below = levels} refl part b is, truth-comparison {below = levels} refl part state is)
+          (compare-says _ _ _ _ _ (ih .numbers _ (o .0)) (ih .numbers _ (o .1)))
+
+      truth-is-said : Says (truthIn (suc levels) part b) (truth (suc levels) part state)
+      truth-is-said =
+          truth-forms Said literal-said negation-said connective-said comparison-said (formAt part 0)
+          (fits-record (suc levels) truthSort part state h .sort) refl
 
   sound : (levels : ℕ) → Sound levels
-  unfolding Fits
-  sound zero = record { numbers = λ part h. absurd h; truths = λ part h. absurd h }
-  sound (suc levels) =
-      let ih = sound levels in
+  sound zero =
       record {
-        numbers = λ part h.
-            let r = fits-record (suc levels) numberSort part state h in
-            let o = number-opens {below = levels} refl part state refl in
-            rw (o, number-in-opens {below = levels} refl part b refl)
-            (number-by levels ih part (formAt part 0) (r .sort) (fits-opens refl part state refl numberSort h)
-            (rw o at (fits-small (suc levels) part state h)));
-        truths = λ part h.
-            let r = fits-record (suc levels) truthSort part state h in
-            rw (truth-opens {below = levels} refl part state refl, truth-in-opens {below = levels} refl part b refl)
-            (truth-by levels ih part (formAt part 0) (r .sort) (fits-opens refl part state refl truthSort h));
+        numbers = λ part h. absurd (omega (arith, fits-level zero numberSort part state h));
+        truths = λ part h. absurd (omega (arith, fits-level zero truthSort part state h));
       }
+  sound (suc levels) = record { numbers = number-lies levels (sound levels); truths = truth-is-said levels (sound levels) }
 
   module _ (levels : ℕ) (part : List ℕ) where
     pub number-inside : Fits levels numberSort part state → In (number levels part state) (numberIn levels part b .span)
@@ -145,5 +172,5 @@ module _ {b : Box} {state : List ℤ} (inside : Inside b state) where
     no-false h e = no-says (truth-said h) e
 
   pub seen-said : (file : List ℕ) (at : ℕ) → Fits 16 truthSort (partAt file at) state → Says (seenOf file at b) (holdsOf file at state)
-  unfolding seenOf holdsOf
-  seen-said file at h = truth-said 16 (partAt file at) h
+  unfolding seenOf
+  seen-said file at h = rw (holds-is file at state) (truth-said 16 (partAt file at) h)

@@ -3,15 +3,15 @@
 use mathlib.Core.Path.{_≡_, refl, ap, _∙_}
 use mathlib.Core.List.{List}
 use mathlib.Core.Bool.{true}
-use Prim.Native.Nat.{ℕ, zero, suc, _+_, _-_, _≤_, _<_}
-use native.Mathlib.Omega.{arith}
+use Prim.Native.Nat.{ℕ, suc, _+_, _-_}
 use lib.ListN.{getD}
 use lib.IntN.{pos}
 use Rattle.records.specs.declared.kinds.Form.{Form}
 use Rattle.records.specs.declared.kinds.Form.the-variants.{Constant, Variable, Arithmetic, Indicator, Literal, Negation, Connective, Comparison}
 use Rattle.records.specs.Record.{kindAt, fieldA, valueB}
-use Rattle.records.specs.Kind.{within, formOf, formAt}
-use Rattle.expressions.specs.Expression.{partAt, firstOperand, secondOperand}
+use Rattle.records.specs.Kind.{formOf, formAt}
+use Rattle.expressions.specs.Expression.{partAt}
+use Rattle.expressions.proofs.Laws.Expression.{first-is}
 use Rattle.expressions.proofs.Laws.Operand.{Two}
 use Rattle.boxes.specs.declared.Box.{Box}
 use Rattle.domains.specs.declared.seen.Seen.{Seen}
@@ -21,28 +21,6 @@ use Rattle.domains.specs.Extent.{extentOf, combineIn, indicatorIn, compareIn}
 use Rattle.enclosures.specs.Enclosure.{numberInBy, truthInBy, numberIn, truthIn}
 use Rattle.domains.proofs.Laws.Seen.{decided}
 use Rattle.enclosures.proofs.Laws.Enclosure.{number-in-opens, truth-in-opens}
-
--- ---- the kinds of the records with two operands
-pub arithmetic : (kind : ℕ) → 0x12 ≤ kind → kind < 0x15 → formOf kind ≡ Arithmetic
-unfolding formOf within
-arithmetic kind l m = go (kind - 0x12) (omega arith) (omega arith)
-  where
-    go : (d : ℕ) → d < 3 → kind ≡ 0x12 + d → formOf kind ≡ Arithmetic
-    go zero h e = rw e
-    go (suc zero) h e = rw e
-    go (suc (suc zero)) h e = rw e
-    go (suc (suc (suc d))) h e = absurd (omega arith)
-
-pub connective : (kind : ℕ) → 0x23 ≤ kind → kind < 0x27 → formOf kind ≡ Connective
-unfolding formOf within
-connective kind l m = go (kind - 0x23) (omega arith) (omega arith)
-  where
-    go : (d : ℕ) → d < 4 → kind ≡ 0x23 + d → formOf kind ≡ Connective
-    go zero h e = rw e
-    go (suc zero) h e = rw e
-    go (suc (suc zero)) h e = rw e
-    go (suc (suc (suc zero))) h e = rw e
-    go (suc (suc (suc (suc d)))) h e = absurd (omega arith)
 
 -- ---- the answers
 module _ {levels : ℕ} (level : levels ≡ suc (levels - 1)) (part : List ℕ) (b : Box) where
@@ -61,28 +39,28 @@ module _ {levels : ℕ} (level : levels ≡ suc (levels - 1)) (part : List ℕ) 
 
   module _ {p : List ℕ} (e : p ≡ partAt part 1) {x : Seen} (a : x ≡ truthIn (levels - 1) p b) where
     pub indicator-in : formAt part 0 ≡ Indicator → indicatorIn x ≡ numberIn levels part b
-    unfolding numberInBy firstOperand
-    indicator-in is = rw (a, e, number-in-opens level part b is)
+    unfolding numberInBy
+    indicator-in is = rw (a, e, ← first-is part, number-in-opens level part b is)
 
     pub negation-in : formAt part 0 ≡ Negation → oppositeOf x ≡ truthIn levels part b
-    unfolding truthInBy firstOperand
-    negation-in is = rw (a, e, truth-in-opens level part b is)
+    unfolding truthInBy
+    negation-in is = rw (a, e, ← first-is part, truth-in-opens level part b is)
 
-module _ {levels over : ℕ} {f : Form} {part table : List ℕ} {at : ℕ} {p : List ℕ} (b : Box) (t : Two levels over f part table at p (b .low)) where
+module _ {levels i j : ℕ} {f : Form} {part table : List ℕ} {at : ℕ} {p : List ℕ} (b : Box) (t : Two levels i j f part table at p (b .low)) where
   module _ {q : List ℕ} (d : q ≡ partAt part (1 + getD table (at + 1) 0)) where
     module _ {x y : Extent} (u : x ≡ numberIn (levels - 1) p b) (v : y ≡ numberIn (levels - 1) q b) where
       pub arithmetic-in : f ≡ Arithmetic → combineIn (kindAt part 0) x y ≡ numberIn levels part b
-      unfolding numberInBy firstOperand secondOperand
-      arithmetic-in k = rw (v, d, t .entry-is, u, t .rest, number-in-opens (t .level) part b (t .is ∙ k))
+      unfolding numberInBy
+      arithmetic-in k = rw (v, t .second d, u, t .first, number-in-opens (t .level) part b (t .is ∙ k))
 
       pub comparison-in : f ≡ Comparison → compareIn (kindAt part 0) x y ≡ truthIn levels part b
-      unfolding truthInBy firstOperand secondOperand
-      comparison-in k = rw (v, d, t .entry-is, u, t .rest, truth-in-opens (t .level) part b (t .is ∙ k))
+      unfolding truthInBy
+      comparison-in k = rw (v, t .second d, u, t .first, truth-in-opens (t .level) part b (t .is ∙ k))
 
     pub connective-in : {x y : Seen} → x ≡ truthIn (levels - 1) p b → y ≡ truthIn (levels - 1) q b → f ≡ Connective
         → connectIn (kindAt part 0) x y ≡ truthIn levels part b
-    unfolding truthInBy firstOperand secondOperand
-    connective-in u v k = rw (v, d, t .entry-is, u, t .rest, truth-in-opens (t .level) part b (t .is ∙ k))
+    unfolding truthInBy
+    connective-in u v k = rw (v, t .second d, u, t .first, truth-in-opens (t .level) part b (t .is ∙ k))
 
   -- of a connective whose right operand was not looked at
   pub decided-in : {x : Seen} → decidesOf (kindAt part 0) x ≡ true → x ≡ truthIn (levels - 1) p b → f ≡ Connective

@@ -5,48 +5,48 @@
 --     state-zero, next                             the first state, and the move forward from any but the last to the one numbered one higher
 --     start-fits, claimed-fits, assertion-fits     in every state the start, each expression of the property and each node's assertion can be evaluated
 --     transition-fits                              so can each transition's guard and assigned values
---     assignments-all, assignments-once            its assignments are all that reading found, to no variable twice
+--     assignments-all                              its assignments are all that reading found, each with its variable and its value in the state
+--     assignments-variables, assignments-once      they are to the variables that reading lists, to none twice
+--     successor-value, successor-rest              its successor "has those values, the rest unchanged"
 --     successor-within                             the successor of an enabled transition at a state is a state
 -- Assumes nothing.
-use mathlib.Core.Path.{_≡_, refl, sym, ap}
-use mathlib.Core.List.{List, _∷_}
-use mathlib.Core.Bool.{true, and-eq-true-iff}
+use mathlib.Core.Path.{_≡_}
+use mathlib.Core.List.{List}
+use mathlib.Core.Bool.{true}
 use Prim.Native.Nat.{ℕ, zero, suc, _+_, _/_, _<_, _≤_}
 use native.Mathlib.Omega.{arith}
 use lib.IntN.{ℤ, pos}
 use lib.ListN.{length, getD}
 use Rattle.integers.specs.declared.Interval.{Interval}
 use Rattle.integers.specs.Interval.{In}
-use Rattle.parsing.specs.declared.Outline.{Outline}
-use Rattle.records.specs.Record.{fieldA, valueB, valueC}
+use Rattle.shapes.specs.declared.Outline.{Outline}
+use Rattle.records.specs.Record.{valueB, valueC}
 use Rattle.records.specs.Kind.{number as numberSort, truth as truthSort}
 use Rattle.sections.specs.Section.{expressionsOf}
-use Rattle.sections.proofs.Laws.Section.{kind-here}
 use Rattle.reading.specs.declared.Reading.{Reading}
 use Rattle.intervals.specs.Interval.{interval}
 use Rattle.reading.specs.Read.{readOf}
 use Rattle.intervals.specs.Expression.{Expression}
-use Rattle.reading.specs.Readable.{Apart, Assignments}
-use Rattle.intervals.proofs.Laws.Expression.{expression-span, expression-within}
+use Rattle.reading.specs.Readable.{Assignments, Transition}
 use Rattle.reading.proofs.Laws.Readable as readable
 use Rattle.expressions.specs.Expression.{partAt, Fits}
-use Rattle.states.specs.State.{lowsOf, highsOf, Ranges, State}
+use Rattle.states.specs.State.{Ranges}
+use Rattle.ranges.specs.Range.{lowsOf, highsOf, State}
 use Rattle.states.specs.Number.{countOf, stateOf, numberOf, advanceOf}
-use Rattle.expressions.specs.Expression.{behind}
-use Rattle.evaluating.specs.Transition.{assignmentAt, assignmentsFrom, allInRange, guardOf, assignmentList, enabledOf, successorOf}
+use Rattle.evaluating.specs.declared.Assignment.{Assignment}
+use Rattle.evaluating.specs.Transition.{assignmentList, enabledOf, successorOf}
 use Rattle.evaluating.specs.Transition.{AssignmentsFit, TransitionFits}
 use Rattle.expressions.proofs.Laws.Sound.{expression-fits}
-use Rattle.states.proofs.Laws.State.{ends-at, ranges-file, within-at}
+use Rattle.expressions.proofs.Laws.Part.{behind-end}
+use Rattle.states.proofs.Laws.State.{within-at, within-length}
+use Rattle.ranges.proofs.Laws.Range.{ends-length, ends-at, ranges-file}
 use Rattle.states.proofs.Laws.Number.{number-below, state-of-number, number-of-state, state-within, first-state, advance-next}
-use Rattle.evaluating.proofs.Laws.Transition.{variables, Unassigned, Once, assigned-within}
+use Rattle.evaluating.proofs.Laws.Transition.{list-from, variables, Unassigned, Once, AssignedIn, assigned-value, assigned-rest}
+use Rattle.evaluating.proofs.Laws.Transition.{found, list-found, found-variables, found-once, found-named}
+use Rattle.evaluating.proofs.Laws.Step.{successor-assigned, successor-state}
 
 -- ---- a transition's assignments
 module _ (file : List ℕ) (vars end : ℕ) where
-  -- the record behind an expression
-  behind-is : {want at mid : ℕ} {i : Interval} → Expression file vars 16 want at mid i → behind file at ≡ mid
-  unfolding behind
-  behind-is {want} {at} {mid} x = sym (expression-span file vars want at mid x)
-
   assignments-fit : (state : List ℤ) → vars ≤ 12
       → ((at mid : ℕ) (i : Interval) → Expression file vars 16 numberSort at mid i → Fits 16 numberSort (partAt file at) state)
       → (n at : ℕ) {vs : List ℕ} → Assignments file vars end at vs → AssignmentsFit file n at state
@@ -54,32 +54,9 @@ module _ (file : List ℕ) (vars end : ℕ) where
   assignments-fit state most fits zero at h = tt
   assignments-fit state most fits (suc n) at (Assignments.none e) = λ k. let z : _≡_ {A = ℕ} 0 1 = cc in absurd (omega arith)
   assignments-fit state most fits (suc n) at (Assignments.more {mid = mid} {i = i} e l x rest apart) =
-      λ k. (omega arith, fits (at + 1) mid i x, rw (behind-is x) (assignments-fit state most fits n mid rest))
+      λ k. (omega arith, fits (at + 1) mid i x, rw (behind-end x) (assignments-fit state most fits n mid rest))
 
-  -- the variables of the assignments listed are those that reading found, each once
-  module _ (state : List ℤ) where
-    unassigned : (v n at : ℕ) {vs : List ℕ} → Assignments file vars end at vs → Apart v vs → Unassigned v (assignmentsFrom file n at state)
-    unfolding assignmentsFrom assignmentAt
-    unassigned v zero at h p = tt
-    unassigned v (suc n) at (Assignments.none e) p = rw e tt
-    unassigned v (suc n) at (Assignments.more {mid = mid} e l x rest apart) p = rw (e, behind-is x) (p .0, unassigned v n mid rest (p .1))
-
-    once : (n at : ℕ) {vs : List ℕ} → Assignments file vars end at vs → Once (assignmentsFrom file n at state)
-    unfolding assignmentsFrom assignmentAt
-    once zero at h = tt
-    once (suc n) at (Assignments.none e) = rw e tt
-    once (suc n) at (Assignments.more {mid = mid} e l x rest apart) = rw (e, behind-is x) (unassigned (fieldA file at) n mid rest apart, once n mid rest)
-
-    listed : (n at : ℕ) {vs : List ℕ} → length file / 8 ≤ at + n → Assignments file vars end at vs → variables (assignmentsFrom file n at state) ≡ vs
-    unfolding assignmentsFrom assignmentAt
-    listed zero at m (Assignments.none e) = refl
-    listed zero at m (Assignments.more e l x rest apart) = absurd (omega (arith, kind-here file 0x04 at e))
-    listed (suc n) at m (Assignments.none e) = rw e
-    listed (suc n) at m (Assignments.more {mid = mid} e l x rest apart) =
-        let w = expression-within file vars numberSort (at + 1) mid x .0 in
-        rw (e, behind-is x) (ap (λ (vs : List ℕ). fieldA file at ∷ vs) (listed n mid (omega arith) rest))
-
-module _ (file : List ℕ) (o : Outline) (r : readOf file ≡ Reading.Readable o) where
+module _ (file : List ℕ) (o : Outline) (r : readOf file ≡ Reading.Found o) where
   most : o .vars ≤ 12
   most = readable.variables-within file o r .1
 
@@ -132,25 +109,38 @@ module _ (file : List ℕ) (o : Outline) (r : readOf file ≡ Reading.Readable o
     transition-fits t l =
         let x = readable.transition file o r t l in
         let values = assignments-fit file (o .vars) (x .end) state most (fits numberSort) (length file / 8) (x .behind) (x .assignments) in
-        record { guard = fits _ _ _ _ (x .guard); assignments = rw (behind-is file (o .vars) (x .end) (x .guard)) values }
+        record { guard = fits _ _ _ _ (x .guard); assignments = rw (behind-end (x .guard)) values }
 
-    -- ---- the assignments: all that reading found, to no variable twice
+    -- ---- a transition's assignments: all that reading found, to no variable twice
     module _ (t : ℕ) (l : t < o .transitions) where
-      pub assignments-all : variables (assignmentList file (readable.transition file o r t l .place) state) ≡ readable.transition file o r t l .assigned
-      unfolding assignmentList
-      assignments-all =
-          let x = readable.transition file o r t l in
-          rw (behind-is file (o .vars) (x .end) (x .guard)) (listed file (o .vars) (x .end) state (length file / 8) (x .behind) (omega arith) (x .assignments))
+      abbrev here : Transition file o t
+      here = readable.transition file o r t l
 
-      pub assignments-once : Once (assignmentList file (readable.transition file o r t l .place) state)
-      unfolding assignmentList
-      assignments-once =
-          let x = readable.transition file o r t l in
-          rw (behind-is file (o .vars) (x .end) (x .guard)) (once file (o .vars) (x .end) state (length file / 8) (x .behind) (x .assignments))
+      abbrev list : List Assignment
+      list = assignmentList file (here .place) state
+
+      pub assignments-all : list ≡ found (here .assignments) state
+      assignments-all =
+          rw (list-from file (here .place) state, behind-end (here .guard))
+          (list-found file (o .vars) (here .end) state (length file / 8) (here .behind) (here .assignments) (omega arith))
+
+      pub assignments-variables : variables list ≡ here .assigned
+      assignments-variables = rw assignments-all (found-variables file (o .vars) (here .end) state (here .behind) (here .assignments))
+
+      pub assignments-once : Once list
+      assignments-once = rw assignments-all (found-once file (o .vars) (here .end) state (here .behind) (here .assignments))
+
+      -- ---- its successor: "has those values, the rest unchanged"
+      pub successor-value : (v : ℕ) (x : ℤ) → AssignedIn v x list → getD (successorOf file (here .place) state) v (pos 0) ≡ x
+      successor-value v x a =
+          let m = most in
+          let named = found-named file (o .vars) (here .end) state v x (here .behind) (here .assignments) (rw assignments-all at a) in
+          let there : v < length state = omega (arith, within-length s .0, ends-length file (o .vars) 2) in
+          rw (successor-assigned file (here .place) state) (assigned-value v x list state there assignments-once a)
+
+      pub successor-rest : (v : ℕ) → Unassigned v list → getD (successorOf file (here .place) state) v (pos 0) ≡ getD state v (pos 0)
+      successor-rest v u = rw (successor-assigned file (here .place) state) (assigned-rest v list state u)
 
     -- ---- the successor
     pub successor-within : (at : ℕ) → enabledOf lows highs file at state ≡ true → State file (o .vars) (successorOf file at state)
-    unfolding enabledOf successorOf
-    successor-within at e =
-        assigned-within lows highs (assignmentList file at state) state s
-        (and-eq-true-iff (guardOf file at state) (allInRange lows highs (assignmentList file at state)) .0 e .1)
+    successor-within at e = successor-state lows highs file at state e s

@@ -1,8 +1,8 @@
 -- A transition's assignments, one after the other. Assumes nothing.
 use mathlib.Core.Path.{_≡_, refl}
-use mathlib.Core.List.{List, [], _∷_}
+use mathlib.Core.List.{List, []}
 use mathlib.Core.Bool.{true, false}
-use Prim.Native.Nat.{ℕ, zero, suc, _+_, _/_, _<_}
+use Prim.Native.Nat.{ℕ, suc, _+_, _/_, _<_}
 use lib.IntN.{ℤ}
 use lib.ListN.{length, set}
 use Rattle.records.specs.Record.{kindIs}
@@ -12,19 +12,7 @@ use Rattle.evaluating.specs.declared.Stepped.{Stepped}
 use Rattle.expressions.specs.Expression.{behind}
 use Rattle.evaluating.specs.Transition.{assignmentAt, assignmentsFrom, inRangeOf, allInRange, assigned, guardOf, assignmentList, enabledOf}
 use Rattle.evaluating.specs.Transition.{successorOf, assignOf, stepOf, AssignmentsFit}
-use Rattle.evaluating.proofs.Laws.Transition.{fits-more}
-
--- ---- the assignments from a record on
-module _ (file : List ℕ) (at : ℕ) (state : List ℤ) where
-  list-none : (left : ℕ) → kindIs file 0x04 at ≡ false → assignmentsFrom file left at state ≡ []
-  unfolding assignmentsFrom
-  list-none zero e = refl
-  list-none (suc n) e = rw e
-
-  module _ {left n : ℕ} (is : left ≡ suc n) (e : kindIs file 0x04 at ≡ true) where
-    list-more : assignmentsFrom file left at state ≡ assignmentAt file at state ∷ assignmentsFrom file n (behind file (at + 1)) state
-    unfolding assignmentsFrom
-    list-more = rw (is, e)
+use Rattle.evaluating.proofs.Laws.Transition.{list-end, list-none, list-more, fits-more}
 
 -- ---- in the loop: what is left to do to `next` gives what all the assignments do to `state`
 module _ (lows highs : List ℤ) (file : List ℕ) (state : List ℤ) (all : List Assignment) where
@@ -42,8 +30,7 @@ module _ (lows highs : List ℤ) (file : List ℕ) (state : List ℤ) (all : Lis
     left-none e = done (list-none file at state left e)
 
     pub left-end : left ≡ 0 → _≡_ {A = Assigned} (record { fits = true; next = next }) (assignOf lows highs all state)
-    unfolding assignmentsFrom
-    left-end e = done (rw e)
+    left-end e = done (rw (e, list-end))
 
     module _ (n : ℕ) (is : left ≡ suc n) (e : kindIs file 0x04 at ≡ true) {a : Assignment} (found : a ≡ assignmentAt file at state) where
       pub left-out : inRangeOf lows highs (a .variable) (a .value) ≡ false

@@ -1,7 +1,7 @@
 -- The evaluators meet their contracts, by the kind of the record. The measure is the levels left; at one level `operand` comes before `number_at`.
 -- Assumes nothing.
-use mathlib.Core.Path.{_≡_, refl, sym, ap, _∙_}
-use Prim.Native.Nat.{ℕ, _+_, _*_, _<_}
+use mathlib.Core.Path.{refl, sym, _∙_}
+use Prim.Native.Nat.{ℕ, _+_, _*_, _≤_, _<_}
 use native.Mathlib.Omega.{arith}
 use borrow.Author.Tests.{not-true, not-false}
 use lib.IntN.{_+ℤ_, _-ℤ_, _*ℤ_}
@@ -11,9 +11,10 @@ use Rattle.integers.proofs.Laws.Bounds.{sum-fits, difference-fits, product-fits
 use Rattle.records.specs.declared.kinds.Form.{Form}
 use Rattle.records.specs.declared.kinds.Form.the-variants.{Arithmetic, Connective, Comparison}
 use Rattle.records.specs.Record.{kindAt, fieldA}
-use Rattle.records.specs.Kind.{within, formOf, signatureOf}
 use Rattle.records.specs.Kind.{number as numberSort, truth as truthSort}
-use Rattle.intervals.specs.Interval.{combine}
+use Rattle.records.proofs.Laws.Kind.{constant-form, variable-form, arithmetic-form, indicator-form, literal-form, negation-form, connective-form}
+use Rattle.records.proofs.Laws.Kind.{comparison-form, arithmetic-row, indicator-row, negation-row, connective-row, comparison-row}
+use Rattle.intervals.proofs.Laws.Combine.{combine-sum, combine-difference, combine-product}
 use Rattle.expressions.specs.Expression.{connectOf}
 use Rattle.expressions.proofs.Laws.Expression.{fits-record}
 use Rattle.expressions.proofs.Laws.Operand.{number-kinds, truth-kinds, Two, there, level, one, two}
@@ -110,67 +111,55 @@ module _ (t : ℕ) where
   abbrev Numbers : number-at-lts.After-after (number-at-claims t) (number-at-at t) number-at.Post → Type 0
   Numbers m =
       let a = m .before .before .before .args in
-      Two (a .levels) numberSort Arithmetic (a .part .now) (a .spans .now) (a .at) (m .after .result .now) (a .t4)
+      Two (a .levels) numberSort numberSort Arithmetic (a .part .now) (a .spans .now) (a .at) (m .after .result .now) (a .t4)
 
-  summed : (m : number-at-lts.After-after (number-at-claims t) (number-at-at t) number-at.Post) {kind : ℕ} → formOf kind ≡ Arithmetic
-      → kindAt (m .before .before .before .args .part .now) 0 ≡ kind → Numbers m
-  unfolding signatureOf
-  summed m f e = two _ _ _ _ _ _ (m .before .before .before .pre .1) (ap formOf e ∙ f) (m .after .ensures) refl
+  summed : (m : number-at-lts.After-after (number-at-claims t) (number-at-at t) number-at.Post)
+      → let kind = kindAt (m .before .before .before .args .part .now) 0 in 0x12 ≤ kind → kind ≤ 0x14 → Numbers m
+  summed m l h = two _ _ _ _ _ _ (m .before .before .before .pre .1) (arithmetic-form l h) (m .after .ensures) arithmetic-row
 
   sum : (c : number-at-lts.At-match-keys3 (number-at-claims t) (number-at-at t) number-at.Post) → Numbers (c .before)
-  unfolding formOf within
-  sum c = summed (c .before) refl (c .match .keys3)
+  sum c = summed (c .before) (omega (arith, c .match .keys3)) (omega (arith, c .match .keys3))
 
   difference : (c : number-at-lts.At-match-keys4 (number-at-claims t) (number-at-at t) number-at.Post) → Numbers (c .before)
-  unfolding formOf within
-  difference c = summed (c .before) refl (c .match .keys4)
+  difference c = summed (c .before) (omega (arith, c .match .keys4)) (omega (arith, c .match .keys4))
 
   product : (c : number-at-lts.At-match-keys5 (number-at-claims t) (number-at-at t) number-at.Post) → Numbers (c .before)
-  unfolding formOf within
-  product c = summed (c .before) refl (c .match .keys5)
+  product c = summed (c .before) (omega (arith, c .match .keys5)) (omega (arith, c .match .keys5))
 
   -- ---- and those of a truth
   abbrev Truths : (over : ℕ) (f : Form) → truth-at-lts.After-after (truth-at-claims t) (truth-at-at t) truth-at.Post → Type 0
   Truths over f m =
       let a = m .before .before .before .args in
-      Two (a .levels) over f (a .part .now) (a .spans .now) (a .at) (m .after .result .now) (a .state)
+      Two (a .levels) over over f (a .part .now) (a .spans .now) (a .at) (m .after .result .now) (a .state)
 
-  connected : (m : truth-at-lts.After-after (truth-at-claims t) (truth-at-at t) truth-at.Post) {kind : ℕ} → formOf kind ≡ Connective
-      → kindAt (m .before .before .before .args .part .now) 0 ≡ kind → Truths truthSort Connective m
-  unfolding signatureOf
-  connected m f e = two _ _ _ _ _ _ (m .before .before .before .pre .1) (ap formOf e ∙ f) (m .after .ensures) refl
+  connected : (m : truth-at-lts.After-after (truth-at-claims t) (truth-at-at t) truth-at.Post)
+      → let kind = kindAt (m .before .before .before .args .part .now) 0 in 0x23 ≤ kind → kind ≤ 0x26 → Truths truthSort Connective m
+  connected m l h = two _ _ _ _ _ _ (m .before .before .before .pre .1) (connective-form l h) (m .after .ensures) connective-row
 
   conjunction : (c : truth-at-lts.At-match-keys3 (truth-at-claims t) (truth-at-at t) truth-at.Post) → Truths truthSort Connective (c .before)
-  unfolding formOf within
-  conjunction c = connected (c .before) refl (c .match .keys3)
+  conjunction c = connected (c .before) (omega (arith, c .match .keys3)) (omega (arith, c .match .keys3))
 
   disjunction : (c : truth-at-lts.At-match-keys4 (truth-at-claims t) (truth-at-at t) truth-at.Post) → Truths truthSort Connective (c .before)
-  unfolding formOf within
-  disjunction c = connected (c .before) refl (c .match .keys4)
+  disjunction c = connected (c .before) (omega (arith, c .match .keys4)) (omega (arith, c .match .keys4))
 
   implication : (c : truth-at-lts.At-match-keys5 (truth-at-claims t) (truth-at-at t) truth-at.Post) → Truths truthSort Connective (c .before)
-  unfolding formOf within
-  implication c = connected (c .before) refl (c .match .keys5)
+  implication c = connected (c .before) (omega (arith, c .match .keys5)) (omega (arith, c .match .keys5))
 
   equivalence : (c : truth-at-lts.At-match-keys6 (truth-at-claims t) (truth-at-at t) truth-at.Post) → Truths truthSort Connective (c .before)
-  unfolding formOf within
-  equivalence c = connected (c .before) refl (c .match .keys6)
+  equivalence c = connected (c .before) (omega (arith, c .match .keys6)) (omega (arith, c .match .keys6))
 
   compared : (c : truth-at-lts.Then5 (truth-at-claims t) (truth-at-at t) truth-at.Post) → Truths numberSort Comparison (c .before .before .before)
-  unfolding signatureOf
   compared c = let h = c .before .before .before .before .before .before .pre .1 in
-      two _ _ _ _ _ _ h (truth-kinds _ _ _ (h .0) .2 (omega arith)) (c .before .before .before .after .ensures) refl
+      two _ _ _ _ _ _ h (comparison-form (omega arith) (truth-kinds _ _ _ (h .0) .1)) (c .before .before .before .after .ensures) comparison-row
 
   -- ---- a variable is one of twelve
   number-named : (c : number-at-lts.At-match-keys2 (number-at-claims t) (number-at-at t) number-at.Post)
       → fieldA (c .before .before .before .before .args .part .now) 0 < 12
-  unfolding formOf within
-  number-named c = fits-record _ _ _ _ (c .before .before .before .before .pre .1 .0) .variable (ap formOf (c .match .keys2))
+  number-named c = fits-record _ _ _ _ (c .before .before .before .before .pre .1 .0) .variable (variable-form (c .match .keys2))
 
   operand-named : (c : operand-lts.At-match-keys2 (operand-claims t) (operand-at t) operand.Post)
       → fieldA (c .before .before .before .args .part .now) 0 < 12
-  unfolding formOf within
-  operand-named c = fits-record _ _ _ _ (c .before .before .before .pre .1 .0) .variable (ap formOf (c .match .keys2))
+  operand-named c = fits-record _ _ _ _ (c .before .before .before .pre .1 .0) .variable (variable-form (c .match .keys2))
 
   -- `number_at`
   number-at-shared-slice-read-kind : number-at-lts.Need-shared-slice-read-kind (number-at-claims t) (number-at-at t) number-at.Post
@@ -294,53 +283,49 @@ module _ (t : ℕ) where
       (right-small s (c .before .after4 .ensures) (c .operand6 .ensures))
 
   number-at-truth-at-requires : number-at-lts.Need-truth-at-requires (number-at-claims t) (number-at-at t) number-at.Post
-  unfolding formOf within signatureOf
   number-at-truth-at-requires c κs = let l = level _ _ _ _ _ _ (c .before .before .before .before .pre .1) in
-      (omega arith, one _ _ _ _ _ _ (c .before .before .before .before .pre .1) (ap formOf (c .match .keys6)) (c .before .after .ensures) refl)
+      (omega arith, one _ _ _ _ _ _ (c .before .before .before .before .pre .1) (indicator-form (c .match .keys6)) (c .before .after .ensures) indicator-row)
 
   number-at-indicator-requires : number-at-lts.Need-indicator-requires (number-at-claims t) (number-at-at t) number-at.Post
   number-at-indicator-requires c κs = tt
 
   number-at-returns : number-at-lts.Need-returns (number-at-claims t) (number-at-at t) number-at.Post
-  unfolding formOf within
   number-at-returns c = rw (back w64 (c .constant .result) (c .constant .ok), c .constant .ensures)
-      (constant-is _ _ _ _ _ _ (c .before .before .before .before .before .pre .1) (ap formOf (c .before .match .keys1)))
+      (constant-is _ _ _ _ _ _ (c .before .before .before .before .before .pre .1) (constant-form (c .before .match .keys1)))
 
   number-at-returns-2 : number-at-lts.Need-returns-2 (number-at-claims t) (number-at-at t) number-at.Post
-  unfolding formOf within
   number-at-returns-2 c = rw (back w64 (c .widen .result) (c .widen .ok), c .widen .ensures, back w16 _ (c .before .value .given))
       (variable-is _ _ _ _ _ _ (c .before .before .before .before .before .before .before .pre .1)
-      (ap formOf (c .before .before .before .match .keys2)))
+      (variable-form (c .before .before .before .match .keys2)))
 
   number-at-returns-3 : number-at-lts.Need-returns-3 (number-at-claims t) (number-at-at t) number-at.Post
-  unfolding combine
   number-at-returns-3 c = let s = sum (c .before .before .before .before) in
       rw (op-back _+ℤ_ sum-fits (left-small s (c .before .before .before .operand .ensures))
       (right-small s (c .before .after2 .ensures) (c .operand2 .ensures)))
-      (arithmetic-is s (c .before .before .before .before .match .keys3) (c .before .after2 .ensures) (c .before .before .before .operand .ensures)
+      (sym (combine-sum _ _)
+      ∙ arithmetic-is s (c .before .before .before .before .match .keys3) (c .before .after2 .ensures) (c .before .before .before .operand .ensures)
       (c .operand2 .ensures) refl)
 
   number-at-returns-4 : number-at-lts.Need-returns-4 (number-at-claims t) (number-at-at t) number-at.Post
-  unfolding combine
   number-at-returns-4 c = let s = difference (c .before .before .before .before) in
       rw (op-back _-ℤ_ difference-fits (left-small s (c .before .before .before .operand3 .ensures))
       (right-small s (c .before .after3 .ensures) (c .operand4 .ensures)))
-      (arithmetic-is s (c .before .before .before .before .match .keys4) (c .before .after3 .ensures) (c .before .before .before .operand3 .ensures)
+      (sym (combine-difference _ _)
+      ∙ arithmetic-is s (c .before .before .before .before .match .keys4) (c .before .after3 .ensures) (c .before .before .before .operand3 .ensures)
       (c .operand4 .ensures) refl)
 
   number-at-returns-5 : number-at-lts.Need-returns-5 (number-at-claims t) (number-at-at t) number-at.Post
-  unfolding combine
   number-at-returns-5 c = let s = product (c .before .before .before .before) in
       rw (op-back _*ℤ_ product-fits (left-small s (c .before .before .before .operand5 .ensures))
       (right-small s (c .before .after4 .ensures) (c .operand6 .ensures)))
-      (arithmetic-is s (c .before .before .before .before .match .keys5) (c .before .after4 .ensures) (c .before .before .before .operand5 .ensures)
+      (sym (combine-product _ _)
+      ∙ arithmetic-is s (c .before .before .before .before .match .keys5) (c .before .after4 .ensures) (c .before .before .before .operand5 .ensures)
       (c .operand6 .ensures) refl)
 
   number-at-returns-6 : number-at-lts.Need-returns-6 (number-at-claims t) (number-at-at t) number-at.Post
-  unfolding formOf within
   number-at-returns-6 c = rw (back w64 (c .indicator .result) (c .indicator .ok), c .indicator .ensures)
       (indicator-is _ _ _ _ _ _ (c .before .before .before .before .before .before .pre .1) (c .before .before .before .after .ensures)
-      (c .before .truth-at .ensures) (ap formOf (c .before .before .match .keys6)))
+      (c .before .truth-at .ensures) (indicator-form (c .before .before .match .keys6)))
 
   number-at-returns-7 : number-at-lts.Need-returns-7 (number-at-claims t) (number-at-at t) number-at.Post
   number-at-returns-7 c = let k = number-kinds _ _ _ (c .before .before .before .before .pre .1 .0) in absurd (omega arith)
@@ -371,14 +356,12 @@ module _ (t : ℕ) where
   operand-number-at-requires c κs = (omega (arith, c .before .before .before .pre .0), c .before .before .before .pre .1)
 
   operand-returns : operand-lts.Need-returns (operand-claims t) (operand-at t) operand.Post
-  unfolding formOf within
   operand-returns c = rw (back w64 (c .constant .result) (c .constant .ok), c .constant .ensures)
-      (constant-is _ _ _ _ _ _ (c .before .before .before .before .pre .1) (ap formOf (c .before .match .keys1)))
+      (constant-is _ _ _ _ _ _ (c .before .before .before .before .pre .1) (constant-form (c .before .match .keys1)))
 
   operand-returns-2 : operand-lts.Need-returns-2 (operand-claims t) (operand-at t) operand.Post
-  unfolding formOf within
   operand-returns-2 c = rw (back w64 (c .widen .result) (c .widen .ok), c .widen .ensures, back w16 _ (c .before .value .given))
-      (variable-is _ _ _ _ _ _ (c .before .before .before .before .before .before .pre .1) (ap formOf (c .before .before .before .match .keys2)))
+      (variable-is _ _ _ _ _ _ (c .before .before .before .before .before .before .pre .1) (variable-form (c .before .before .before .match .keys2)))
 
   operand-returns-3 : operand-lts.Need-returns-3 (operand-claims t) (operand-at t) operand.Post
   operand-returns-3 c = rw (back w64 (c .number-at .result) (c .number-at .ok)) (c .number-at .ensures)
@@ -397,9 +380,8 @@ module _ (t : ℕ) where
   truth-at-add-first c = let l = there _ _ _ _ _ _ (c .before .before .before .pre .1) in omega (arith, c .before .before .before .pre .1 .1 .0)
 
   truth-at-truth-at-requires : truth-at-lts.Need-truth-at-requires (truth-at-claims t) (truth-at-at t) truth-at.Post
-  unfolding formOf within signatureOf
   truth-at-truth-at-requires c κs = let l = level _ _ _ _ _ _ (c .before .before .before .before .pre .1) in
-      (omega arith, one _ _ _ _ _ _ (c .before .before .before .before .pre .1) (ap formOf (c .match .keys2)) (c .before .after .ensures) refl)
+      (omega arith, one _ _ _ _ _ _ (c .before .before .before .before .pre .1) (negation-form (c .match .keys2)) (c .before .after .ensures) negation-row)
 
   truth-at-truth-at-requires-2 : truth-at-lts.Need-truth-at-requires-2 (truth-at-claims t) (truth-at-at t) truth-at.Post
   truth-at-truth-at-requires-2 c κs = let s = conjunction c in (omega (arith, c .before .before .before .before .pre .0), s .left)
@@ -545,13 +527,11 @@ module _ (t : ℕ) where
   truth-at-compare-requires c κs = tt
 
   truth-at-returns-4 : truth-at-lts.Need-returns-4 (truth-at-claims t) (truth-at-at t) truth-at.Post
-  unfolding formOf within
-  truth-at-returns-4 c = literal-is _ _ _ _ _ _ (c .before .before .before .before .pre .1) (c .match .keys1) refl
+  truth-at-returns-4 c = literal-is _ _ _ _ _ _ (c .before .before .before .before .pre .1) (c .match .keys1) (literal-form (omega arith) (omega arith))
 
   truth-at-returns-5 : truth-at-lts.Need-returns-5 (truth-at-claims t) (truth-at-at t) truth-at.Post
-  unfolding formOf within
   truth-at-returns-5 c = negation-is _ _ _ _ _ _ (c .before .before .before .before .before .pre .1) (c .before .before .after .ensures)
-      (c .truth-at .ensures) (ap formOf (c .before .match .keys2))
+      (c .truth-at .ensures) (negation-form (c .before .match .keys2))
 
   truth-at-returns-6 : truth-at-lts.Need-returns-6 (truth-at-claims t) (truth-at-at t) truth-at.Post
   unfolding connectOf
@@ -586,9 +566,8 @@ module _ (t : ℕ) where
       ∙ comparison-is (compared (c .before .before .before .before .before)) refl (c .before .before .after6 .ensures) (x .ensures) (y .ensures) refl
 
   truth-at-returns-11 : truth-at-lts.Need-returns-11 (truth-at-claims t) (truth-at-at t) truth-at.Post
-  unfolding formOf within
   truth-at-returns-11 c = let k = truth-kinds _ _ _ (c .before .before .before .before .before .pre .1 .0) in
-      literal-is _ _ _ _ _ _ (c .before .before .before .before .before .pre .1) {kind = 0x21} (omega arith) refl
+      literal-is _ _ _ _ _ _ (c .before .before .before .before .before .pre .1) {kind = 0x21} (omega arith) (literal-form (omega arith) (omega arith))
 
   truth-at-returns-12 : truth-at-lts.Need-returns-12 (truth-at-claims t) (truth-at-at t) truth-at.Post
   truth-at-returns-12 c = let k = truth-kinds _ _ _ (c .before .before .before .before .before .before .pre .1 .0) in absurd (omega arith)

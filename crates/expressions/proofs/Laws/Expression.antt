@@ -1,40 +1,108 @@
 -- Laws of what an expression is worth, by the form of its record, one level further in for its operands.
---     number-opens, truth-opens, span-opens     its worth and its number of records, by those of its operands
---     fits-level, fits-there, fits-small        an expression that fits has a level and a record, and a number is small
---     fits-opens                                its record fits, and so do its operands
---     fits-within, fits-here                    all its records are there
+--     first-is, second-is                                     the parts of the operands
+--     number-opens, truth-opens                               a number and a truth, by the form
+--     number-constant, number-variable, number-arithmetic, number-indicator     a number of each form
+--     truth-literal, truth-negation, truth-connective, truth-comparison         a truth of each form
+--     holds-is                                                a truth expression of a file
+--     fits-level, fits-record, fits-small                     an expression that fits has a level and a record that fits, and a number is small
+--     fits-opens, fits-one, fits-two                          its operands fit
+--     fits-within, fits-here                                  all its records are there
 -- Assumes nothing.
 use mathlib.Core.Path.{_≡_, refl}
 use mathlib.Core.List.{List}
+use mathlib.Core.Bool.{not}
 use Prim.Native.Nat.{ℕ, zero, suc, _+_, _-_, _*_, _≤_}
 use native.Mathlib.Omega.{arith}
-use lib.ListN.{length, length-drop}
-use lib.IntN.{ℤ}
+use lib.ListN.{length, getD, length-drop}
+use lib.Dec.{eqb}
+use lib.IntN.{ℤ, pos}
 use Rattle.integers.specs.Interval.{In, bounds}
 use Rattle.records.specs.declared.kinds.Form.{Form}
-use Rattle.records.specs.Kind.{formAt, signatureOf, signatureAt}
+use Rattle.records.specs.declared.kinds.Form.the-variants.{Constant, Variable, Arithmetic, Indicator, Literal, Negation, Connective, Comparison}
+use Rattle.records.specs.Record.{kindAt, fieldA, valueB}
+use Rattle.records.specs.Kind.{row, formAt, signatureOf, signatureAt}
 use Rattle.records.specs.Kind.{number as numberSort}
 use Rattle.records.specs.Walk.{spans, span}
 use Rattle.records.proofs.Laws.Kind.{operands-most}
-use Rattle.expressions.specs.Expression.{partAt, firstOperand, secondOperand, numberBy, truthBy, number, truth, RecordFits, OperandsFit, Fits}
+use Rattle.records.proofs.Laws.Span.{spans-none, spans-one, spans-two, span-opens}
+use Rattle.intervals.specs.Interval.{combine}
+use Rattle.expressions.specs.Expression.{partAt, firstOperand, secondOperand, indicatorOf, connectOf, compareOf, numberBy, truthBy, number, truth}
+use Rattle.expressions.specs.Expression.{holdsOf, RecordFits, OperandsFit, Fits}
 
--- ---- opened
-module _ {levels below : ℕ} (e : levels ≡ suc below) (part : List ℕ) (state : List ℤ) {f : Form} (is : formAt part 0 ≡ f) where
-  pub number-opens : number levels part state ≡ numberBy below (λ p. number below p state) (λ p. truth below p state) f part state
+-- ---- the operands
+pub first-is : (part : List ℕ) → firstOperand part ≡ partAt part 1
+unfolding firstOperand
+first-is part = refl
+
+pub second-is : (levels : ℕ) (part : List ℕ) → secondOperand levels part ≡ partAt part (1 + span levels (firstOperand part))
+unfolding secondOperand
+second-is levels part = refl
+
+-- ---- worth
+module _ {levels below : ℕ} (e : levels ≡ suc below) (part : List ℕ) (state : List ℤ) where
+  pub number-opens : {f : Form} → formAt part 0 ≡ f
+      → number levels part state ≡ numberBy below (λ p. number below p state) (λ p. truth below p state) f part state
   unfolding number
-  number-opens = rw (e, is)
+  number-opens is = rw (e, is)
 
-  pub truth-opens : truth levels part state ≡ truthBy below (λ p. number below p state) (λ p. truth below p state) f part
+  pub truth-opens : {f : Form} → formAt part 0 ≡ f
+      → truth levels part state ≡ truthBy below (λ p. number below p state) (λ p. truth below p state) f part
   unfolding truth
-  truth-opens = rw (e, is)
+  truth-opens is = rw (e, is)
 
-  pub span-opens : span levels part ≡ spans (span below) (signatureOf f .operands) 1 part
-  unfolding span
-  span-opens = rw (e, is)
+  pub number-constant : formAt part 0 ≡ Constant → number levels part state ≡ valueB part 0
+  unfolding numberBy
+  number-constant = number-opens
 
-  pub fits-opens : (want : ℕ) → Fits levels want part state → OperandsFit (λ p. Fits below (signatureOf f .over) p state) below part (signatureOf f .operands)
-  unfolding Fits
-  fits-opens want h = (rw (e, is) at h) .2
+  pub number-variable : formAt part 0 ≡ Variable → number levels part state ≡ getD state (fieldA part 0) (pos 0)
+  unfolding numberBy
+  number-variable = number-opens
+
+  pub number-arithmetic : formAt part 0 ≡ Arithmetic
+      → number levels part state ≡ combine (kindAt part 0) (number below (firstOperand part) state) (number below (secondOperand below part) state)
+  unfolding numberBy
+  number-arithmetic = number-opens
+
+  pub number-indicator : formAt part 0 ≡ Indicator → number levels part state ≡ indicatorOf (truth below (firstOperand part) state)
+  unfolding numberBy
+  number-indicator = number-opens
+
+  pub truth-literal : formAt part 0 ≡ Literal → truth levels part state ≡ eqb (kindAt part 0) 0x20
+  unfolding truthBy
+  truth-literal = truth-opens
+
+  pub truth-negation : formAt part 0 ≡ Negation → truth levels part state ≡ not (truth below (firstOperand part) state)
+  unfolding truthBy
+  truth-negation = truth-opens
+
+  pub truth-connective : formAt part 0 ≡ Connective
+      → truth levels part state ≡ connectOf (kindAt part 0) (truth below (firstOperand part) state) (truth below (secondOperand below part) state)
+  unfolding truthBy
+  truth-connective = truth-opens
+
+  pub truth-comparison : formAt part 0 ≡ Comparison
+      → truth levels part state ≡ compareOf (kindAt part 0) (number below (firstOperand part) state) (number below (secondOperand below part) state)
+  unfolding truthBy
+  truth-comparison = truth-opens
+
+  -- ---- operands that fit
+  module _ {f : Form} (is : formAt part 0 ≡ f) (want : ℕ) (h : Fits levels want part state) where
+    pub fits-opens : let s = signatureOf f in OperandsFit (λ sort p. Fits below sort p state) below part (s .first) (s .second) (s .operands)
+    unfolding Fits
+    fits-opens = (rw (e, is) at h) .2
+
+    module _ {own a b : ℕ} where
+      pub fits-one : signatureOf f ≡ row own 1 a b → Fits below a (firstOperand part) state
+      unfolding OperandsFit
+      fits-one r = rw r at fits-opens
+
+      pub fits-two : signatureOf f ≡ row own 2 a b → Fits below a (firstOperand part) state × Fits below b (secondOperand below part) state
+      unfolding OperandsFit
+      fits-two r = rw r at fits-opens
+
+pub holds-is : (file : List ℕ) (at : ℕ) (state : List ℤ) → holdsOf file at state ≡ truth 16 (partAt file at) state
+unfolding holdsOf
+holds-is file at state = refl
 
 -- ---- an expression that fits
 pub fits-level : (levels want : ℕ) (part : List ℕ) (state : List ℤ) → Fits levels want part state → levels ≡ suc (levels - 1)
@@ -53,23 +121,25 @@ fits-small zero part state h = absurd h
 fits-small (suc levels) part state h = h .1 refl
 
 -- ---- its records
-operands-within : (F : List ℕ → Type 0) (below : ℕ) (part : List ℕ) (n : ℕ) → n ≤ 2 → 8 ≤ length part → ((p : List ℕ) → F p → 8 * span below p ≤ length p)
-    → OperandsFit F below part n → 8 * spans (span below) n 1 part ≤ length part
-unfolding OperandsFit spans firstOperand secondOperand
-operands-within F below part zero l there ih h = omega arith
-operands-within F below part (suc zero) l there ih h = omega (arith, ih (firstOperand part) h, length-drop 8 part)
-operands-within F below part (suc (suc zero)) l there ih h =
+operands-within : (F : ℕ → List ℕ → Type 0) (below : ℕ) (part : List ℕ) (a b n : ℕ) → n ≤ 2 → 8 ≤ length part
+    → ((sort : ℕ) (p : List ℕ) → F sort p → 8 * span below p ≤ length p) → OperandsFit F below part a b n → 8 * spans (span below) n 1 part ≤ length part
+unfolding OperandsFit firstOperand secondOperand
+operands-within F below part a b zero l there ih h = rw spans-none (omega arith)
+operands-within F below part a b (suc zero) l there ih h = rw spans-one (omega (arith, ih a (firstOperand part) h, length-drop 8 part))
+operands-within F below part a b (suc (suc zero)) l there ih h =
     let second = 8 * (1 + span below (firstOperand part)) in
-    omega (arith, ih (firstOperand part) (h .0), ih (secondOperand below part) (h .1), length-drop 8 part, length-drop second part)
-operands-within F below part (suc (suc (suc n))) l there ih h = absurd (omega arith)
+    rw spans-two
+    (omega (arith, ih a (firstOperand part) (h .0), ih b (secondOperand below part) (h .1), length-drop 8 part, length-drop second part))
+operands-within F below part a b (suc (suc (suc n))) l there ih h = absurd (omega arith)
 
 pub fits-within : (levels want : ℕ) (part : List ℕ) (state : List ℤ) → Fits levels want part state → 8 * span levels part ≤ length part
-unfolding Fits span
+unfolding Fits
 fits-within zero want part state h = absurd h
 fits-within (suc levels) want part state h =
     let s = signatureAt part 0 in
-    operands-within (λ p. Fits levels (s .over) p state) levels part (s .operands) (operands-most (formAt part 0)) (h .0 .there)
-    (λ p. fits-within levels (s .over) p state) (h .2)
+    rw (span-opens {below = levels} refl part {f = formAt part 0} refl)
+    (operands-within (λ sort p. Fits levels sort p state) levels part (s .first) (s .second) (s .operands) (operands-most (formAt part 0)) (h .0 .there)
+    (λ sort p. fits-within levels sort p state) (h .2))
 
 -- of an expression of a file
 pub fits-here : (file : List ℕ) (at levels want : ℕ) (state : List ℤ) → Fits levels want (partAt file at) state → 8 * at + 8 ≤ length file

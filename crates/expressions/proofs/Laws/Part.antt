@@ -1,11 +1,19 @@
--- A part lent from a record on, with its table. Assumes nothing.
-use mathlib.Core.Path.{_≡_}
+-- Parts of a file, lent from a record on, with its table.
+--     take-rest                      a part that is lent runs to the end
+--     lent, entry                    the expression at a record may be handed on, and the table has an entry for it
+--     behind-is, behind-within       the table says where it ends
+--     behind-end                     that is where it ends in a readable file
+-- Assumes nothing.
+use mathlib.Core.Path.{_≡_, sym}
 use mathlib.Core.List.{List}
 use Prim.Native.Nat.{ℕ, _+_, _-_, _*_, _≤_, _<_}
 use native.Mathlib.Omega.{arith}
 use lib.IntN.{ℤ}
 use lib.ListN.{length, getD, take, drop, length-drop}
 use lib.Seq.{take-all}
+use Rattle.integers.specs.declared.Interval.{Interval}
+use Rattle.intervals.specs.Expression.{Expression}
+use Rattle.intervals.proofs.Laws.Expression.{expression-span}
 use Rattle.expressions.specs.Expression.{partAt, Fits, Spans}
 use Rattle.expressions.specs.Expression.{behind}
 use Rattle.expressions.proofs.Laws.Expression.{fits-within, fits-here}
@@ -37,3 +45,8 @@ module _ (file table : List ℕ) (s : Spans file table) (want at : ℕ) (state :
   behind-within =
       let w = fits-within 16 want (partAt file at) state h in
       omega (arith, s .right at 16 want state h, fits-here file at 16 want state h, length-drop (8 * at) file)
+
+-- ---- of a readable file
+pub behind-end : {file : List ℕ} {vars want at end : ℕ} {i : Interval} → Expression file vars 16 want at end i → behind file at ≡ end
+unfolding behind
+behind-end {file} {vars} {want} {at} {end} x = sym (expression-span file vars want at end x)

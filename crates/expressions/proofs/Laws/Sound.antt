@@ -1,43 +1,38 @@
 -- Intervals are sound: in a state whose values lie in the ranges, an expression of a readable file fits, and a number lies in its interval.
---     expression-fits     it fits: its records are there, their kinds fit, and every number is small
---     number-in           a number lies in its interval
---     combine-in, indicator-in, constant-in     sums, differences, products, indicators and constants lie in theirs
+--     expression-fits               it fits: its records are there, their kinds fit, and every number is small
+--     number-in                     a number lies in its interval
+--     indicator-in, constant-in     indicators and constants lie in theirs
 -- Assumes nothing.
-use mathlib.Core.Path.{_≡_, refl, sym, ap, subst, _∙_}
+use mathlib.Core.Path.{_≡_, refl, sym, ap, _∙_}
 use mathlib.Core.List.{List}
 use mathlib.Core.Bool.{Bool, cond}
 use Prim.Native.Nat.{ℕ, zero, suc, _+_, _*_, _/_, _<_, _≤_}
-use native.Mathlib.Nat.{add-zero}
 use native.Mathlib.Omega.{arith}
-use lib.Dec.{eqb}
-use lib.IntN.{ℤ, pos, _+ℤ_, _-ℤ_, _*ℤ_}
+use lib.IntN.{ℤ, pos}
 use lib.ListN.{length, getD, length-drop}
 use lib.Seq.{getD-drop, drop-drop}
 use lib.Signed.{≤ℤ-refl}
 use Rattle.integers.specs.declared.Interval.{Interval}
-use Rattle.integers.specs.Interval.{In, overEnds}
+use Rattle.integers.specs.Interval.{In}
 use Rattle.integers.proofs.Laws.Parts.{by-test, ints}
-use Rattle.integers.proofs.Laws.Interval.{in-bounds, sum-in, difference-in, product-in}
+use Rattle.integers.proofs.Laws.Interval.{in-bounds}
 use Rattle.records.specs.declared.kinds.Form.{Form}
-use Rattle.records.specs.declared.kinds.Form.the-variants.{Constant, Variable, Arithmetic, Indicator, Literal, Negation, Connective, Comparison, Unfit}
+use Rattle.records.specs.declared.kinds.Form.the-variants.{Constant, Variable, Arithmetic, Indicator}
 use Rattle.records.specs.Record.{kindAt, fieldA, valueB, valueC}
-use Rattle.records.specs.Kind.{formOf, formAt, signatureOf, signatureAt}
+use Rattle.records.specs.Kind.{row, formAt, signatureOf, signatureAt}
 use Rattle.records.specs.Kind.{number as numberSort}
 use Rattle.records.specs.Walk.{span}
-use Rattle.intervals.specs.Interval.{interval, unit, leafOf, combine, joinOf}
+use Rattle.records.proofs.Laws.Kind.{constant-row, variable-row, arithmetic-row, indicator-row, number-forms}
+use Rattle.records.proofs.Laws.Span.{kind-part, form-part}
+use Rattle.intervals.specs.Interval.{interval, unit}
 use Rattle.intervals.specs.Expression.{Expression, Operands}
+use Rattle.intervals.proofs.Laws.Combine.{leaf-constant, leaf-variable, join-arithmetic, combine-in}
 use Rattle.intervals.proofs.Laws.Expression.{expression-opens, expression-deepest, expression-bounded, expression-span}
-use Rattle.expressions.specs.Expression.{partAt, firstOperand, secondOperand, indicatorOf, numberBy, number, truth, OperandsFit, Fits}
-use Rattle.expressions.proofs.Laws.Expression.{number-opens}
+use Rattle.expressions.specs.Expression.{partAt, firstOperand, secondOperand, indicatorOf, number, OperandsFit, Fits}
+use Rattle.expressions.proofs.Laws.Expression.{number-constant, number-variable, number-arithmetic, number-indicator}
 
--- ---- the record of a part is the file's
+-- ---- the fields of a part's record are the file's, and its parts are
 module _ (file : List ℕ) (at : ℕ) where
-  pub kind-part : kindAt (partAt file at) 0 ≡ kindAt file at
-  kind-part = getD-drop (8 * at) file 0 0 ∙ rw add-zero
-
-  pub form-part : formAt (partAt file at) 0 ≡ formAt file at
-  form-part = ap formOf kind-part
-
   pub variable-part : fieldA (partAt file at) 0 ≡ fieldA file at
   variable-part = getD-drop (8 * at) file 1 0
 
@@ -63,14 +58,7 @@ module _ (file : List ℕ) (at : ℕ) where
   pub part-length : at < length file / 8 → 8 ≤ length (partAt file at)
   part-length l = omega (arith, length-drop (8 * at) file)
 
--- ---- the three operations, the indicator and the constant
-pub combine-in : (kind : ℕ) {x y : ℤ} {i j : Interval} → In x i → In y j → In (combine kind x y) (overEnds (combine kind) i j)
-unfolding combine
-combine-in kind {x} {y} {i} {j} h k =
-    let last = cond (eqb kind 0x13) _-ℤ_ _*ℤ_ in
-    by-test (eqb kind 0x12) (λ t. In (cond t _+ℤ_ last x y) (overEnds (cond t _+ℤ_ last) i j)) (λ e. sum-in h k)
-    (λ e. by-test (eqb kind 0x13) (λ t. In (cond t _-ℤ_ _*ℤ_ x y) (overEnds (cond t _-ℤ_ _*ℤ_) i j)) (λ e. difference-in h k) (λ e. product-in h k))
-
+-- ---- the indicator and the constant
 pub indicator-in : (p : Bool) → In (indicatorOf p) unit
 unfolding indicatorOf
 indicator-in p =
@@ -89,45 +77,61 @@ module _ (file : List ℕ) (vars : ℕ) (most : vars ≤ 12) (state : List ℤ)
     number-lies : want ≡ numberSort → In (number levels (partAt file at) state) i
 
   module _ (levels at end : ℕ) (ih : (want at end : ℕ) (i : Interval) → Expression file vars levels want at end i → Sound levels want at i) where
-    abbrev N : List ℕ → ℤ
-    N p = number levels p state
-
     second-at : {want mid : ℕ} {j : Interval} → Expression file vars levels want (at + 1) mid j → secondOperand levels (partAt file at) ≡ partAt file mid
     second-at {want} {mid} {j} x = second-part file at levels mid (expression-span file vars want (at + 1) mid x)
 
     operands-fit : {i : Interval} → Operands file vars levels at end i
-        → OperandsFit (λ p. Fits levels (signatureAt file at .over) p state) levels (partAt file at) (signatureAt file at .operands)
+        → let s = signatureAt file at in OperandsFit (λ sort p. Fits levels sort p state) levels (partAt file at) (s .first) (s .second) (s .operands)
     unfolding OperandsFit
     operands-fit (Operands.none m e) = rw m tt
     operands-fit (Operands.one {j} m x) = rw (m, first-part file at) (ih _ _ _ _ x .fits)
     operands-fit (Operands.two {mid} {j} {k} m x y) = rw (m, first-part file at, second-at x) (ih _ _ _ _ x .fits, ih _ _ _ _ y .fits)
 
-    count-at : {f : Form} {n : ℕ} → formAt file at ≡ f → signatureAt file at .operands ≡ n → signatureOf f .operands ≡ n
-    count-at is m = sym (ap (λ (f : Form). signatureOf f .operands) is) ∙ m
+    -- ---- the number, by its form
+    abbrev Lies : Form → Type 0
+    Lies f = (i : Interval) → formAt file at ≡ f → Operands file vars levels at end i → In (number (suc levels) (partAt file at) state) i
 
-    number-by : (f : Form) → formAt file at ≡ f → signatureOf f .sort ≡ numberSort → (f ≡ Variable → fieldA file at < vars)
-        → {i : Interval} → Operands file vars levels at end i → In (numberBy levels N (λ p. truth levels p state) f (partAt file at) state) i
-    unfolding numberBy signatureOf leafOf joinOf
-    number-by Constant is sort named (Operands.none m e) = rw (is, value-part file at) (constant-in (valueB file at))
-    number-by Constant is sort named (Operands.one {j} m x) = let z : _≡_ {A = ℕ} 0 1 = count-at is m in absurd (omega arith)
-    number-by Constant is sort named (Operands.two {mid} {j} {k} m x y) = let z : _≡_ {A = ℕ} 0 2 = count-at is m in absurd (omega arith)
-    number-by Variable is sort named (Operands.none m e) = rw (is, variable-part file at) (inside (fieldA file at) (named refl))
-    number-by Variable is sort named (Operands.one {j} m x) = let z : _≡_ {A = ℕ} 0 1 = count-at is m in absurd (omega arith)
-    number-by Variable is sort named (Operands.two {mid} {j} {k} m x y) = let z : _≡_ {A = ℕ} 0 2 = count-at is m in absurd (omega arith)
-    number-by Arithmetic is sort named (Operands.none m e) = let z : _≡_ {A = ℕ} 2 0 = count-at is m in absurd (omega arith)
-    number-by Arithmetic is sort named (Operands.one {j} m x) = let z : _≡_ {A = ℕ} 2 1 = count-at is m in absurd (omega arith)
-    number-by Arithmetic is sort named (Operands.two {mid} {j} {k} m x y) =
-        let over : signatureAt file at .over ≡ numberSort = ap (λ (f : Form). signatureOf f .over) is in
-        let operands-in = combine-in (kindAt file at) (ih _ _ _ _ x .number-lies over) (ih _ _ _ _ y .number-lies over) in
-        rw (is, kind-part file at, first-part file at, second-at x) operands-in
-    number-by Indicator is sort named (Operands.none m e) = let z : _≡_ {A = ℕ} 1 0 = count-at is m in absurd (omega arith)
-    number-by Indicator is sort named (Operands.one {j} m x) = indicator-in (truth levels (firstOperand (partAt file at)) state)
-    number-by Indicator is sort named (Operands.two {mid} {j} {k} m x y) = let z : _≡_ {A = ℕ} 1 2 = count-at is m in absurd (omega arith)
-    number-by Literal is sort named o = absurd (omega arith)
-    number-by Negation is sort named o = absurd (omega arith)
-    number-by Connective is sort named o = absurd (omega arith)
-    number-by Comparison is sort named o = absurd (omega arith)
-    number-by Unfit is sort named o = absurd (omega arith)
+    form-at : {f : Form} → formAt file at ≡ f → formAt (partAt file at) 0 ≡ f
+    form-at is = form-part file at ∙ is
+
+    count-at : {f : Form} {own n a b m : ℕ} → formAt file at ≡ f → signatureOf f ≡ row own n a b → signatureAt file at .operands ≡ m → n ≡ m
+    count-at is r m = rw (is, r) at m
+
+    constant-lies : Lies Constant
+    constant-lies i is (Operands.none m e) =
+        rw (number-constant {below = levels} refl (partAt file at) state (form-at is), is, leaf-constant, value-part file at) (constant-in (valueB file at))
+    constant-lies i is (Operands.one {j} m x) = absurd (omega (arith, count-at is constant-row m))
+    constant-lies i is (Operands.two {mid} {j} {k} m x y) = absurd (omega (arith, count-at is constant-row m))
+
+    variable-lies : (formAt file at ≡ Variable → fieldA file at < vars) → Lies Variable
+    variable-lies named i is (Operands.none m e) =
+        rw (number-variable {below = levels} refl (partAt file at) state (form-at is), is, leaf-variable, variable-part file at)
+        (inside (fieldA file at) (named is))
+    variable-lies named i is (Operands.one {j} m x) = absurd (omega (arith, count-at is variable-row m))
+    variable-lies named i is (Operands.two {mid} {j} {k} m x y) = absurd (omega (arith, count-at is variable-row m))
+
+    arithmetic-lies : Lies Arithmetic
+    arithmetic-lies i is (Operands.none m e) = absurd (omega (arith, count-at is arithmetic-row m))
+    arithmetic-lies i is (Operands.one {j} m x) = absurd (omega (arith, count-at is arithmetic-row m))
+    arithmetic-lies i is (Operands.two {mid} {j} {k} m x y) =
+        let first : signatureAt file at .first ≡ numberSort = rw (is, arithmetic-row) in
+        let second : signatureAt file at .second ≡ numberSort = rw (is, arithmetic-row) in
+        let operands-in = combine-in (kindAt file at) (ih _ _ _ _ x .number-lies first) (ih _ _ _ _ y .number-lies second) in
+        rw (
+          number-arithmetic {below = levels} refl (partAt file at) state (form-at is),
+          is,
+          join-arithmetic,
+          kind-part file at,
+          first-part file at,
+          second-at x,
+        )
+        operands-in
+
+    indicator-lies : Lies Indicator
+    indicator-lies i is (Operands.none m e) = absurd (omega (arith, count-at is indicator-row m))
+    indicator-lies i is (Operands.one {j} m x) =
+        rw (number-indicator {below = levels} refl (partAt file at) state (form-at is)) (indicator-in _)
+    indicator-lies i is (Operands.two {mid} {j} {k} m x y) = absurd (omega (arith, count-at is indicator-row m))
 
   sound : (levels want at end : ℕ) (i : Interval) → Expression file vars levels want at end i → Sound levels want at i
   unfolding Fits
@@ -136,8 +140,8 @@ module _ (file : List ℕ) (vars : ℕ) (most : vars ≤ 12) (state : List ℤ)
       let o = expression-opens file vars levels at end x in
       let ih = sound levels in
       let lies : want ≡ numberSort → In (number (suc levels) (partAt file at) state) i =
-      λ w. subst (λ (z : ℤ). In z i) (sym (number-opens refl (partAt file at) state (form-part file at)))
-      (number-by levels at end ih (formAt file at) refl (o .sort ∙ w) (o .variable) (o .operands)) in
+      λ w. number-forms (Lies levels at end ih) (constant-lies levels at end ih) (variable-lies levels at end ih (o .variable))
+      (arithmetic-lies levels at end ih) (indicator-lies levels at end ih) (formAt file at) (o .sort ∙ w) i refl (o .operands) in
       record {
         fits = (
           record {

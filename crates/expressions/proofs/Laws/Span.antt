@@ -16,9 +16,10 @@ use lib.Seq.{getD-drop, drop-drop}
 use Rattle.records.specs.Kind.{formAt, signatureOf, signatureAt}
 use Rattle.records.specs.Walk.{spans, span}
 use Rattle.records.proofs.Laws.Kind.{operands-most}
+use Rattle.records.proofs.Laws.Span.{form-part, spans-none, spans-one, spans-two, span-opens}
 use Rattle.expressions.specs.Expression.{partAt, firstOperand, secondOperand, OperandsFit, Fits, spanBy, withSpan, spansFrom, spansOf, Spans}
-use Rattle.expressions.proofs.Laws.Expression.{span-opens, fits-opens, fits-level, fits-here}
-use Rattle.expressions.proofs.Laws.Sound.{form-part, part-part, first-part, second-part}
+use Rattle.expressions.proofs.Laws.Expression.{fits-opens, fits-level, fits-here}
+use Rattle.expressions.proofs.Laws.Sound.{part-part, first-part, second-part}
 
 -- ---- zeros
 pub zeros-behind : (table : List ℕ) (n i : ℕ) → getD (table ++ replicate n 0) i 0 ≡ getD table i 0
@@ -45,18 +46,18 @@ module _ (file : List ℕ) where
     by-within (suc zero) l = omega (arith, first-entry .within l)
     by-within (suc (suc n)) l = omega (arith, entry (getD rest 0 0) .within (first-entry .within l))
 
-    by-right : (below over : ℕ) (state : List ℤ) (n : ℕ) → n ≤ 2
-        → OperandsFit (λ p. Fits below over p state) below (partAt file at) n → spanBy n rest ≡ spans (span below) n 1 (partAt file at)
-    unfolding OperandsFit spans firstOperand secondOperand spanBy
-    by-right below over state zero l h = refl
-    by-right below over state (suc zero) l h =
-        rw (first-part file at) (omega (arith, first-entry .right below over state (rw first-part at h)))
-    by-right below over state (suc (suc zero)) l h =
-        let r = first-entry .right below over state (rw first-part at (h .0)) in
+    by-right : (below a b : ℕ) (state : List ℤ) (n : ℕ) → n ≤ 2
+        → OperandsFit (λ sort p. Fits below sort p state) below (partAt file at) a b n → spanBy n rest ≡ spans (span below) n 1 (partAt file at)
+    unfolding OperandsFit firstOperand secondOperand spanBy
+    by-right below a b state zero l h = rw spans-none
+    by-right below a b state (suc zero) l h =
+        rw (spans-one, first-part file at) (omega (arith, first-entry .right below a state (rw first-part at h)))
+    by-right below a b state (suc (suc zero)) l h =
+        let r = first-entry .right below a state (rw first-part at (h .0)) in
         let g = second-part file at below (at + 1 + getD rest 0 0) (omega arith) in
-        let t = entry (getD rest 0 0) .right below over state (rw g at (h .1)) in
-        rw (g, first-part file at) (omega arith)
-    by-right below over state (suc (suc (suc n))) l h = absurd (omega arith)
+        let t = entry (getD rest 0 0) .right below b state (rw g at (h .1)) in
+        rw (spans-two, g, first-part file at) (omega arith)
+    by-right below a b state (suc (suc (suc n))) l h = absurd (omega arith)
 
     by-entry : at + 1 ≤ length file / 8 → Entry at (spanBy (signatureAt file at .operands) rest)
     by-entry l =
@@ -67,8 +68,8 @@ module _ (file : List ℕ) where
               let part = partAt file at in
               let g = formAt file at in
               let e = fits-level levels want part state h in
-              rw (span-opens e part state (form-part file at))
-              (by-right (levels - 1) (signatureOf g .over) state (signatureOf g .operands) (operands-most g)
+              rw (span-opens e part (form-part file at))
+              (by-right (levels - 1) (signatureOf g .first) (signatureOf g .second) state (signatureOf g .operands) (operands-most g)
               (fits-opens e part state (form-part file at) want h));
         }
 

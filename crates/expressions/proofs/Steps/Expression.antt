@@ -1,5 +1,5 @@
 -- The evaluators at one record: the answers for its operands make the answer for the whole. Assumes nothing.
-use mathlib.Core.Path.{_≡_, refl, ap, _∙_}
+use mathlib.Core.Path.{_≡_, refl, sym, ap, _∙_}
 use mathlib.Core.List.{List}
 use mathlib.Core.Bool.{Bool, not}
 use Prim.Native.Nat.{ℕ, suc, _+_, _-_}
@@ -13,8 +13,9 @@ use Rattle.records.specs.Record.{kindAt, fieldA, valueB}
 use Rattle.records.specs.Kind.{formOf, formAt}
 use Rattle.records.specs.Kind.{number as numberSort}
 use Rattle.intervals.specs.Interval.{combine}
-use Rattle.expressions.specs.Expression.{partAt, firstOperand, secondOperand, indicatorOf, connectOf, compareOf, numberBy, truthBy, number, truth, Fits}
-use Rattle.expressions.proofs.Laws.Expression.{number-opens, truth-opens, fits-small}
+use Rattle.expressions.specs.Expression.{partAt, indicatorOf, connectOf, compareOf, number, truth, Fits}
+use Rattle.expressions.proofs.Laws.Expression.{first-is, number-constant, number-variable, number-arithmetic, number-indicator}
+use Rattle.expressions.proofs.Laws.Expression.{truth-literal, truth-negation, truth-connective, truth-comparison, fits-small}
 use Rattle.expressions.proofs.Laws.Operand.{Asked, Two, level}
 
 -- ---- the answers
@@ -23,42 +24,34 @@ module _ (levels want : ℕ) (part table : List ℕ) (at : ℕ) (state : List �
   here = level levels want part table at state h
 
   pub constant-is : formAt part 0 ≡ Constant → valueB part 0 ≡ number levels part state
-  unfolding numberBy
-  constant-is is = rw (number-opens here part state is)
+  constant-is is = sym (number-constant here part state is)
 
   pub variable-is : formAt part 0 ≡ Variable → getD state (fieldA part 0) (pos 0) ≡ number levels part state
-  unfolding numberBy
-  variable-is is = rw (number-opens here part state is)
+  variable-is is = sym (number-variable here part state is)
 
   pub literal-is : {kind : ℕ} → kindAt part 0 ≡ kind → formOf kind ≡ Literal → eqb kind 0x20 ≡ truth levels part state
-  unfolding truthBy
-  literal-is is f = rw (← is, truth-opens here part state (ap formOf is ∙ f))
+  literal-is is f = rw (← is, truth-literal here part state (ap formOf is ∙ f))
 
   module _ {p : List ℕ} (e : p ≡ partAt part 1) {x : Bool} (a : x ≡ truth (levels - 1) p state) where
     pub indicator-is : formAt part 0 ≡ Indicator → indicatorOf x ≡ number levels part state
-    unfolding numberBy firstOperand
-    indicator-is is = rw (a, e, number-opens here part state is)
+    indicator-is is = rw (a, e, number-indicator here part state is, first-is part)
 
     pub negation-is : formAt part 0 ≡ Negation → not x ≡ truth levels part state
-    unfolding truthBy firstOperand
-    negation-is is = rw (a, e, truth-opens here part state is)
+    negation-is is = rw (a, e, truth-negation here part state is, first-is part)
 
-module _ {levels over : ℕ} {f : Form} {part table : List ℕ} {at : ℕ} {p : List ℕ} {state : List ℤ} (t : Two levels over f part table at p state)
+module _ {levels i j : ℕ} {f : Form} {part table : List ℕ} {at : ℕ} {p : List ℕ} {state : List ℤ} (t : Two levels i j f part table at p state)
     {kind : ℕ} (is : kindAt part 0 ≡ kind) where
   module _ {q : List ℕ} (d : q ≡ partAt part (1 + getD table (at + 1) 0)) where
     module _ {x y : ℤ} (a : x ≡ number (levels - 1) p state) (b : y ≡ number (levels - 1) q state) where
       pub arithmetic-is : f ≡ Arithmetic → combine kind x y ≡ number levels part state
-      unfolding numberBy firstOperand secondOperand
-      arithmetic-is k = rw (← is, b, d, t .entry-is, a, t .rest, number-opens (t .level) part state (t .is ∙ k))
+      arithmetic-is k = rw (← is, b, t .second d, a, t .first, number-arithmetic (t .level) part state (t .is ∙ k))
 
       pub comparison-is : f ≡ Comparison → compareOf kind x y ≡ truth levels part state
-      unfolding truthBy firstOperand secondOperand
-      comparison-is k = rw (← is, b, d, t .entry-is, a, t .rest, truth-opens (t .level) part state (t .is ∙ k))
+      comparison-is k = rw (← is, b, t .second d, a, t .first, truth-comparison (t .level) part state (t .is ∙ k))
 
     pub connective-is : {x y : Bool} → x ≡ truth (levels - 1) p state → y ≡ truth (levels - 1) q state → f ≡ Connective
         → connectOf kind x y ≡ truth levels part state
-    unfolding truthBy firstOperand secondOperand
-    connective-is a b k = rw (← is, b, d, t .entry-is, a, t .rest, truth-opens (t .level) part state (t .is ∙ k))
+    connective-is a b k = rw (← is, b, t .second d, a, t .first, truth-connective (t .level) part state (t .is ∙ k))
 
   -- of a connective whose right operand was not looked at
   pub decided-is : {x : Bool} → x ≡ truth (levels - 1) p state → f ≡ Connective
@@ -69,7 +62,7 @@ module _ {levels over : ℕ} {f : Form} {part table : List ℕ} {at : ℕ} {p : 
 number-small : (levels : ℕ) (part : List ℕ) (state : List ℤ) → Fits levels numberSort part state → {x : ℤ} → x ≡ number levels part state → In x bounds
 number-small levels part state h e = rw e (fits-small levels part state h)
 
-module _ {levels : ℕ} {f : Form} {part table : List ℕ} {at : ℕ} {p : List ℕ} {state : List ℤ} (t : Two levels numberSort f part table at p state)
+module _ {levels : ℕ} {f : Form} {part table : List ℕ} {at : ℕ} {p : List ℕ} {state : List ℤ} (t : Two levels numberSort numberSort f part table at p state)
   where
     pub left-small : {x : ℤ} → x ≡ number (levels - 1) p state → In x bounds
     left-small a = number-small (levels - 1) p state (t .left .0) a

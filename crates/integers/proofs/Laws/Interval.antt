@@ -134,6 +134,15 @@ bounded {i} e =
     let b = and-eq-true-iff (between (negsuc 999999) (pos 1000000) (i .low)) (between (negsuc 999999) (pos 1000000) (i .high)) .0 e in
     record { low = between-in (i .low) (b .0); high = between-in (i .high) (b .1) }
 
+in-between : (x : ℤ) → In x bounds → between (negsuc 999999) (pos 1000000) x ≡ true
+in-between x h = and-eq-true-iff (leZ (negsuc 999999) x) (leZ x (pos 1000000)) .1 (omega ints, omega ints)
+
+pub bounded-test : {i : Interval} → Bounded i → inBounds i ≡ true
+unfolding inBounds
+bounded-test {i} b =
+    and-eq-true-iff (between (negsuc 999999) (pos 1000000) (i .low)) (between (negsuc 999999) (pos 1000000) (i .high)) .1
+    (in-between (i .low) (b .low), in-between (i .high) (b .high))
+
 -- what lies in an interval in bounds lies in bounds
 pub in-bounds : {x : ℤ} {i : Interval} → Bounded i → In x i → In x bounds
 in-bounds b h = record { above = ≤ℤ-trans (b .low .above) (h .above); below = ≤ℤ-trans (h .below) (b .high .below) }

@@ -25,6 +25,18 @@ module _ (low : ℤ) where
   unfolding at offsetOf
   at-offset v h = let z = v -ℤ low in omega (ints, add-parts low (pos (natAbs z)), sub-parts v low, abs-parts z, one-part z)
 
+  pub offset-self : offsetOf low low ≡ 0
+  unfolding at
+  offset-self = let e : at low 0 ≡ low = omega (ints, add-parts low (pos 0)) in rw e at (offset-at 0)
+
+  -- the next value is one further from the low end
+  pub offset-next : (v : ℤ) → low ≤ℤ v → offsetOf low (v +ℤ pos 1) ≡ offsetOf low v + 1
+  unfolding at
+  offset-next v h =
+      let o = offsetOf low v in
+      let e : at low (o + 1) ≡ v +ℤ pos 1 = omega (ints, add-parts low (pos (o + 1)), add-parts low (pos o), add-parts v (pos 1), at-offset v h) in
+      rw e at (offset-at (o + 1))
+
   -- offsets rise with the values
   pub offset-rises : (v high : ℤ) → low ≤ℤ v → v ≤ℤ high → offsetOf low v ≤ offsetOf low high
   unfolding offsetOf

@@ -9,10 +9,9 @@ use mathlib.Core.Path.{_≡_, refl, ap, subst, _∙_}
 use mathlib.Core.Bool.{Bool, true, false, cond}
 use mathlib.Core.List.{List}
 use Prim.Native.Nat.{ℕ, zero, suc, _+_, _*_, _/_, _<_, _≤_}
-use native.Mathlib.Nat.{add-zero}
 use native.Mathlib.Omega.{arith}
-use lib.ListN.{length, getD, drop}
-use lib.Seq.{getD-drop, drop-drop}
+use lib.ListN.{length, drop}
+use lib.Seq.{drop-drop}
 use borrow.Author.Tests.{ltb-true}
 use lib.Dec.{ltb}
 use Rattle.integers.specs.declared.Interval.{Interval}
@@ -20,10 +19,10 @@ use Rattle.integers.specs.Interval.{inBounds, Bounded}
 use Rattle.integers.proofs.Laws.Interval.{bounded}
 use Rattle.records.specs.declared.walk.Walked.{Walked}
 use Rattle.records.specs.Record.{kindAt}
-use Rattle.records.specs.Kind.{formOf, signatureOf, formAt, signatureAt}
+use Rattle.records.specs.Kind.{formAt, signatureAt}
 use Rattle.records.specs.Walk.{walkOf, spans, span}
 use Rattle.records.proofs.Laws.Kind.{operands-most}
-use Rattle.records.proofs.Laws.Span.{walk-span}
+use Rattle.records.proofs.Laws.Span.{form-part, spans-none, spans-one, spans-two, span-opens, span-some, walk-span}
 use Rattle.intervals.specs.declared.Analysis.{Analysis}
 use Rattle.intervals.specs.declared.Analysis.the-variants.{Within, Out}
 use Rattle.intervals.specs.Interval.{unit, leafOf, joinOf, ownOf, andInterval, byOperands, analysisOf}
@@ -112,21 +111,19 @@ module _ (file : List ℕ) (levels at end : ℕ)
   part-from k = let d : 8 * at + 8 * k ≡ 8 * (at + k) = omega arith in drop-drop (8 * k) (8 * at) file ∙ rw d
 
   analysed-span : {i : Interval} → Analysed file levels at end i → end ≡ at + spans (span levels) (signatureAt file at .operands) 1 (drop (8 * at) file)
-  unfolding spans
-  analysed-span (none n e) = rw n e
-  analysed-span (one {j} n l) = rw (n, part-from 1) (let z = ih (at + 1) end j l in omega arith)
+  analysed-span (none n e) = rw (n, spans-none) e
+  analysed-span (one {j} n l) = rw (n, spans-one, part-from 1) (let z = ih (at + 1) end j l in omega arith)
   analysed-span (two {mid} {j} {k} n l r) =
       let y = ih (at + 1) mid j l in
       let z = ih mid end k r in
       let m : mid ≡ at + (1 + span levels (drop (8 * (at + 1)) file)) = omega arith in
-      rw (n, part-from 1, part-from (1 + span levels (drop (8 * (at + 1)) file)), ← m) (omega arith)
+      rw (n, spans-two, part-from 1, part-from (1 + span levels (drop (8 * (at + 1)) file)), ← m) (omega arith)
 
 pub analysis-span : (file : List ℕ) (levels at end : ℕ) (i : Interval) → analysisOf file levels at ≡ Within i end → end ≡ at + span levels (drop (8 * at) file)
-unfolding span
 analysis-span file zero at end i q = absurd (analysis-deepest i end file at q)
 analysis-span file (suc levels) at end i q =
-    let z : getD (drop (8 * at) file) 0 0 ≡ getD file (8 * at) 0 = getD-drop (8 * at) file 0 0 ∙ rw add-zero in
-    rw z (analysed-span file levels at end (analysis-span file levels) (analysis-opens i end file levels at q .2))
+    rw (span-opens {below = levels} refl (drop (8 * at) file) (form-part file at))
+    (analysed-span file levels at end (analysis-span file levels) (analysis-opens i end file levels at q .2))
 
 pub analysis-walk : (file : List ℕ) (vars levels want at end : ℕ) (j : Interval) (e : ℕ)
     → walkOf file vars levels want at ≡ Walked.End end → analysisOf file levels at ≡ Within j e → e ≡ end
@@ -150,16 +147,7 @@ module _ (file : List ℕ) where
       let o = analysis-opens i end file levels at q in
       analysed-within (o .0) (analysis-within levels) (o .2)
 
-spans-least : (count : List ℕ → ℕ) (part : List ℕ) (n k : ℕ) → k ≤ spans count n k part
-unfolding spans
-spans-least count part zero k = omega arith
-spans-least count part (suc n) k = let z = spans-least count part n (k + count (drop (8 * k) part)) in omega arith
-
 -- an expression has a record
 pub analysis-ahead : (file : List ℕ) (levels at : ℕ) (j : Interval) (e : ℕ) → analysisOf file levels at ≡ Within j e → at < e
-unfolding span
 analysis-ahead file zero at j e q = absurd (analysis-deepest j e file at q)
-analysis-ahead file (suc levels) at j e q =
-    let z = analysis-span file (suc levels) at e j q in
-    let y = spans-least (span levels) (drop (8 * at) file) (signatureOf (formOf (getD (drop (8 * at) file) 0 0)) .operands) 1 in
-    omega arith
+analysis-ahead file (suc levels) at j e q = omega (arith, analysis-span file (suc levels) at e j q, span-some levels (drop (8 * at) file))

@@ -6,19 +6,19 @@
 --     scan-expression        one of the two holds of an expression that walks to its end
 -- Assumes nothing.
 use mathlib.Core.Path.{_≡_, refl, sym, _∙_}
-use mathlib.Core.Bool.{true, and-eq-true-iff}
+use mathlib.Core.Bool.{true}
 use mathlib.Core.List.{List}
 use Prim.Native.Nat.{ℕ, zero, suc, _+_, _-_, _/_, _<_, _≤_}
 use native.Mathlib.Numerals.{sub-one}
 use native.Mathlib.Omega.{arith}
-use borrow.Author.Tests.{lt-ltb, le-ltb, ltb-true, eq-eqb, ne-eqb, eqb-true}
-use lib.Dec.{ltb, eqb}
+use borrow.Author.Tests.{lt-ltb, le-ltb, eq-eqb, ne-eqb}
 use lib.ListN.{length}
 use Rattle.integers.specs.declared.Interval.{Interval}
 use Rattle.records.specs.declared.walk.Walked.{Walked}
-use Rattle.records.specs.Record.{kindAt, kindIs}
+use Rattle.records.specs.Record.{kindIs}
 use Rattle.records.specs.Kind.{none, formOf, signatureOf, signatureAt}
 use Rattle.records.specs.Walk.{walkOf}
+use Rattle.records.proofs.Laws.Record.{kind-is}
 use Rattle.records.proofs.Laws.Walk.{walk-opens}
 use Rattle.intervals.specs.declared.Analysis.{Analysis}
 use Rattle.intervals.specs.declared.Analysis.the-variants.{Within, Out}
@@ -74,11 +74,9 @@ module _ (file : List ℕ) (answer : Walked) where
             record { left = s .left - 1; enough = omega arith; gives = sym (analysed-here (s .left) l ∙ rw q) ∙ s .gives }
 
   pub scan-head : (kind at : ℕ) → signatureOf (formOf kind) .sort ≡ none → kindIs file kind at ≡ true → Scan file answer at → Scan file answer (at + 1)
-  unfolding kindIs
   scan-head kind at u k s =
-      let b = and-eq-true-iff (ltb at (length file / 8)) (eqb (kindAt file at) kind) .0 k in
-      let z : kindAt file at ≡ kind = eqb-true _ _ (b .1) in
-      scan-skip at (ltb-true _ _ (b .0)) (rw z u) s
+      let b = kind-is file kind at k in
+      scan-skip at (b .0) (rw (b .1) u) s
 
 -- where the scan comes to an expression, it passes it or refuses it
 pub data Tried (file : List ℕ) (answer : Walked) (at end : ℕ) : Type 0 where

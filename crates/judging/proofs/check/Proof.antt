@@ -3,7 +3,8 @@
 -- Assumes nothing.
 use mathlib.Core.Path.{sym, _∙_}
 use Rattle.report.proofs.Laws.Report.{report-short}
-use Rattle.judging.proofs.Laws.Check.{check-short, check-long, check-decides, check-claims}
+use Rattle.verdicts.proofs.Laws.Verdict.{check-short, check-long}
+use Rattle.judging.proofs.Laws.Check.{check-decides, check-claims}
 use borrow.Author.Needs.{needs}
 use Rattle.judging.proofs.check.Statement.{statement}
 use Rattle.judging.proofs.check.Tie as tie
@@ -13,7 +14,7 @@ unnamed-requires c κs = search needs
 
 returns : tie.Need-returns
 returns c =
-    let e = c .unnamed .ensures ∙ sym (check-short _ _ (c .before .if1 .taken)) in
+    let e = c .unnamed .ensures ∙ sym (check-short _ (c .before .if1 .taken)) in
     (e, (report-short _ _ (c .before .if1 .taken), (check-decides _ _ e, check-claims _ _ e)))
 
 verdict-requires : tie.Need-verdict-requires
@@ -28,7 +29,7 @@ same-length c = search needs
 returns-2 : tie.Need-returns-2
 returns-2 c =
     let d = c .before .before .before .before in
-    let e = d .verdict .ensures ∙ sym (check-long _ _ (d .before .if1 .left)) in
+    let e = d .verdict .ensures ∙ sym (check-long _ (d .before .if1 .left)) in
     (e, (c .before .before .write-report .ensures, (check-decides _ _ e, check-claims _ _ e)))
 
 pub check-spec : {M : Type 1} → statement M

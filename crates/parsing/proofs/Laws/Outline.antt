@@ -14,13 +14,13 @@ use Rattle.records.specs.declared.walk.Walked.{Walked}
 use Rattle.records.specs.declared.walk.Walked.the-variants.{End}
 use Rattle.sections.specs.declared.Section.{Section}
 use Rattle.sections.specs.declared.Section.the-variants.{Items}
-use Rattle.parsing.specs.declared.Outline.{Outline}
+use Rattle.shapes.specs.declared.Outline.{Outline}
 use Rattle.parsing.specs.declared.Parsed.{Parsed}
 use Rattle.records.specs.Walk.{inSequence, truthOf}
 use Rattle.records.specs.Record.{kindIs}
-use Rattle.sections.specs.Section.{noFields, variableFields, propertyFields}
+use Rattle.sections.specs.Section.{noFields, propertyAt, propertyFields}
 use Rattle.sections.specs.Section.{variablesOf, transitionsOf, expressionsOf, phasesOr, nodesOf, edgesOf}
-use Rattle.sections.proofs.Laws.Section.{items-single}
+use Rattle.sections.proofs.Laws.Counted.{variables-end}
 use Rattle.parsing.specs.Outline.{andParse, andSection}
 use Rattle.parsing.specs.Outline.{edgesParsed, nodesParsed, propertyParsed, transitionsParsed, startParsed, parsedOf}
 
@@ -35,7 +35,7 @@ pub record Parses (file : List ℕ) (o : Outline) : Type 0 where
   pub property-named : kindIs file 0x05 (o .property) ≡ true
   pub property-right : propertyFields file (o .property) ≡ true
   pub truths : inSequence (truthOf file (o .vars)) (expressionsOf file (o .property)) (o .property + 1) ≡ End (o .node)
-  pub nodes : nodesOf file (o .vars) (phasesOr file (o .property) 32) (o .node) ≡ Items (o .nodes) (o .edge)
+  pub nodes : nodesOf file (o .vars) (propertyAt file (o .property) .ranks) (phasesOr file (o .property) 32) (o .node) ≡ Items (o .nodes) (o .edge)
   pub enough : phasesOr file (o .property) 1 ≤ o .nodes
   pub edges : edgesOf file (o .transitions) (o .nodes) (o .edge) ≡ Items (o .edges) (length file / 8)
 
@@ -66,12 +66,6 @@ walk-opens (Walked.Refused n i) e = let z : _≡_ {A = ℕ} 0 1 = cc in absurd (
 same : (o p : Outline) → Parsed.Whole p ≡ Parsed.Whole o → p ≡ o
 same o p e = cc
 
-pub variables-end : (file : List ℕ) (n end : ℕ) → variablesOf file ≡ Items n end → end ≡ n
-unfolding variablesOf
-variables-end file n end e =
-    let z = items-single file 0x01 (variableFields file) (λ at. Walked.End (at + 1)) (λ i x q. cc) n end 12 0 0 e in
-    omega arith
-
 -- ---- the stages, each with what the ones before it found
 module _ (file : List ℕ) (o : Outline) (whole : length file % 8 ≡ 0) (small : length file ≤ 32768) where
   module _ (vars : ℕ) (variables : variablesOf file ≡ Items vars vars) where
@@ -79,7 +73,7 @@ module _ (file : List ℕ) (o : Outline) (whole : length file % 8 ≡ 0) (small 
       module _ (transitions property : ℕ) (named : transitionsOf file vars transition ≡ Items transitions property) where
         module _ (node : ℕ) (property-named : kindIs file 0x05 property ≡ true) (property-right : propertyFields file property ≡ true)
             (truths : inSequence (truthOf file vars) (expressionsOf file property) (property + 1) ≡ End node) where
-          module _ (nodes edge : ℕ) (there : nodesOf file vars (phasesOr file property 32) node ≡ Items nodes edge)
+          module _ (nodes edge : ℕ) (there : nodesOf file vars (propertyAt file property .ranks) (phasesOr file property 32) node ≡ Items nodes edge)
               (enough : phasesOr file property 1 ≤ nodes) where
             edges-from : edgesParsed file vars transition transitions property node nodes edge ≡ Parsed.Whole o → Parses file o
             unfolding edgesParsed
@@ -106,7 +100,7 @@ module _ (file : List ℕ) (o : Outline) (whole : length file % 8 ≡ 0) (small 
           nodes-from : nodesParsed file vars transition transitions property node ≡ Parsed.Whole o → Parses file o
           unfolding nodesParsed
           nodes-from e =
-              let s = section-opens (nodesOf file vars (phasesOr file property 32) node) e in
+              let s = section-opens (nodesOf file vars (propertyAt file property .ranks) (phasesOr file property 32) node) e in
               let p = passed (leb (phasesOr file property 1) (s .count)) 3 (s .end) (s .goes) in
               edges-from (s .count) (s .end) (s .is) (leb-true _ _ (p .0)) (p .1)
 

@@ -3,19 +3,21 @@
 --     at-start, at-transitions, at-claims, at-nodes, at-end     where it then holds: at each section
 --     transition-through, node-through                          and past each transition and each node
 -- Assumes nothing.
-use mathlib.Core.Path.{_≡_, refl, sym, subst}
+use mathlib.Core.Path.{_≡_}
 use mathlib.Core.Bool.{true}
 use mathlib.Core.List.{List}
 use Prim.Native.Nat.{ℕ, _+_, _/_}
 use native.Mathlib.Omega.{arith}
 use lib.ListN.{length, replicate}
 use Rattle.records.specs.declared.walk.Walked.the-variants.{End}
-use Rattle.parsing.specs.declared.Outline.{Outline}
+use Rattle.shapes.specs.declared.Outline.{Outline}
 use Rattle.records.specs.Record.{kindIs}
-use Rattle.records.specs.Kind.{none, number, truth, within, formOf, signatureOf}
+use Rattle.records.specs.Kind.{none, number, truth, formOf, signatureOf}
 use Rattle.records.specs.Walk.{walkOf, truthOf}
-use Rattle.sections.specs.Section.{variableFields, variablesOf, transitionOf, transitionsOf, expressionsOf, nodeOf, nodesOf, edgeOf, edgesOf}
-use Rattle.sections.proofs.Laws.Section.{items-through, sequence-through, assignments-through, transition-opens, edge-opens}
+use Rattle.sections.specs.Section.{transitionOf, expressionsOf, nodeOf}
+use Rattle.records.proofs.Laws.Kind.{head-none}
+use Rattle.sections.proofs.Laws.Section.{sequence-through, assignments-through, transition-opens, node-opens}
+use Rattle.sections.proofs.Laws.Counted.{variables-through, transitions-through, nodes-through, edges-through}
 use Rattle.parsing.proofs.Laws.Outline.{Parses}
 
 -- what is carried past a record that begins an item, and past an expression
@@ -32,39 +34,34 @@ module _ (file : List ℕ) (vars : ℕ) (P : ℕ → Type 0) (head : PastHead fi
   item-through kind want at end u some k w p = expression want (at + 1) end some w (head kind at u k p)
 
   pub transition-through : (end at : ℕ) → kindIs file 0x03 at ≡ true → transitionOf file vars at ≡ End end → P at → P end
-  unfolding within formOf signatureOf
   transition-through end at k e p =
       let t = transition-opens file vars end at e in
-      assignments-through file vars end P (λ i x. item-through 0x04 number i x refl (λ z. omega arith)) 12 (replicate 12 0) (t .place) (t .assigns)
-      (item-through 0x03 truth at (t .place) refl (λ z. omega arith) k (t .guard) p)
+      assignments-through file vars end P (λ i x. item-through 0x04 number i x (head-none (omega arith)) (λ z. omega arith))
+      12 (replicate 12 0) (t .place) (t .assigns)
+      (item-through 0x03 truth at (t .place) (head-none (omega arith)) (λ z. omega arith) k (t .guard) p)
 
-  pub node-through : (end at : ℕ) → kindIs file 0x06 at ≡ true → nodeOf file vars at ≡ End end → P at → P end
-  unfolding within formOf signatureOf
-  node-through end at = item-through 0x06 truth at end refl (λ z. omega arith)
+  pub node-through : (ranks end at : ℕ) → kindIs file 0x06 at ≡ true → nodeOf file vars ranks at ≡ End end → P at → P end
+  node-through ranks end at k e p =
+      let n = node-opens file vars ranks at end e in
+      sequence-through (walkOf file vars 16 number) P (λ i x. expression number i x (λ z. omega arith)) end ranks (n .mid) (n .rest)
+      (item-through 0x06 truth at (n .mid) (head-none (omega arith)) (λ z. omega arith) k (n .first) p)
 
 -- ---- the sections in their order
 module _ (file : List ℕ) (o : Outline) (p : Parses file o) (P : ℕ → Type 0) (head : PastHead file P) (expression : PastExpression file (o .vars) P)
     (first : P 0) where
   pub at-start : P (o .vars)
-  unfolding variablesOf within formOf signatureOf
-  at-start =
-      items-through file 0x01 (variableFields file) (λ at. End (at + 1)) P (λ i x k e a. let z : i + 1 ≡ x = cc in subst P z (head 0x01 i refl k a))
-      (o .vars) (o .vars) 12 0 0 (p .variables) first
+  at-start = variables-through _ _ _ (p .variables) P (λ i. head 0x01 i (head-none (omega arith))) first
 
   pub at-transitions : P (o .transition)
-  unfolding within formOf signatureOf
   at-transitions =
-      item-through file (o .vars) P head expression 0x02 truth (o .vars) (o .transition) refl (λ z. omega arith) (p .start-named) (p .start) at-start
+      item-through file (o .vars) P head expression 0x02 truth (o .vars) (o .transition) (head-none (omega arith)) (λ z. omega arith)
+      (p .start-named) (p .start) at-start
 
   at-property : P (o .property)
-  unfolding transitionsOf
-  at-property =
-      items-through _ _ _ (transitionOf file (o .vars)) P (λ i x. transition-through file (o .vars) P head expression x i)
-      _ _ 32 0 _ (p .transitions) at-transitions
+  at-property = transitions-through _ _ _ _ _ (p .transitions) P (λ i x. transition-through file (o .vars) P head expression x i) at-transitions
 
   pub at-claims : P (o .property + 1)
-  unfolding within formOf signatureOf
-  at-claims = head 0x05 (o .property) refl (p .property-named) at-property
+  at-claims = head 0x05 (o .property) (head-none (omega arith)) (p .property-named) at-property
 
   pub at-nodes : P (o .node)
   at-nodes =
@@ -72,11 +69,7 @@ module _ (file : List ℕ) (o : Outline) (p : Parses file o) (P : ℕ → Type 0
       (o .node) (expressionsOf file (o .property)) (o .property + 1) (p .truths) at-claims
 
   at-edges : P (o .edge)
-  unfolding nodesOf
-  at-edges = items-through _ _ _ (nodeOf file (o .vars)) P (λ i x. node-through file (o .vars) P head expression x i) _ _ _ 0 _ (p .nodes) at-nodes
+  at-edges = nodes-through _ _ _ _ _ _ _ (p .nodes) P (λ i x. node-through file (o .vars) P head expression _ x i) at-nodes
 
   pub at-end : P (length file / 8)
-  unfolding edgesOf within formOf signatureOf
-  at-end =
-      items-through _ _ _ (edgeOf file (o .edge)) P (λ i x k e a. subst P (sym (edge-opens file (o .edge) i x e .1)) (head 0x07 i refl k a))
-      _ _ 512 0 _ (p .edges) at-edges
+  at-end = edges-through _ _ _ _ _ _ (p .edges) P (λ i. head 0x07 i (head-none (omega arith))) at-edges

@@ -8,10 +8,11 @@ use borrow.Author.Tests.{eq-eqb, le-leb, lt-leb}
 use lib.ListN.{length}
 use Rattle.records.specs.declared.walk.Walked.{Walked}
 use Rattle.sections.specs.declared.Section.{Section}
+use Rattle.shapes.specs.declared.Property.{Property}
 use Rattle.parsing.specs.declared.Parsed.{Parsed}
 use Rattle.records.specs.Record.{kindIs}
 use Rattle.records.specs.Walk.{inSequence, truthOf}
-use Rattle.sections.specs.Section.{noFields, propertyFields, variablesOf, expressionsOf, phasesOr, nodesOf}
+use Rattle.sections.specs.Section.{noFields, propertyAt, propertyFields, variablesOf, expressionsOf, phasesOr, nodesOf}
 use Rattle.parsing.specs.Outline.{edgesParsed, nodesParsed, propertyParsed, transitionsParsed, startParsed, parsedOf}
 use Rattle.truths.proofs.Laws.Answer.{unless-taken, unless-left}
 
@@ -75,16 +76,17 @@ module _ (file : List ℕ) (vars transition transitions property node : ℕ) whe
   abbrev nodes-on : Parsed
   nodes-on = nodesParsed file vars transition transitions property node
 
-  module _ {most : ℕ} (m : most ≡ phasesOr file property 32) {found : Section} (is : found ≡ nodesOf file vars most node) where
+  module _ {row : Property} (p : row ≡ propertyAt file property) {most : ℕ} (m : most ≡ phasesOr file property 32) {found : Section}
+      (is : found ≡ nodesOf file vars (row .ranks) most node) where
     pub nodes-refused : {number place : ℕ} → found ≡ Section.Refused number place → Parsed.Refused number place ≡ nodes-on
     unfolding nodesParsed
-    nodes-refused e = simp (sym m, sym is ∙ e)
+    nodes-refused e = simp (sym p, sym m, sym is ∙ e)
 
     module _ {count edge : ℕ} (e : found ≡ Section.Items count edge) {least : ℕ} (l : least ≡ phasesOr file property 1) where
       pub nodes-few : count < least → Parsed.Refused 3 edge ≡ nodes-on
       unfolding nodesParsed
-      nodes-few h = simp (sym m, sym is ∙ e, sym l, lt-leb _ _ h)
+      nodes-few h = simp (sym p, sym m, sym is ∙ e, sym l, lt-leb _ _ h)
 
       pub nodes-enough : {r : Parsed} → least ≤ count → r ≡ edgesParsed file vars transition transitions property node count edge → r ≡ nodes-on
       unfolding nodesParsed
-      nodes-enough h rest = simp (sym m, sym is ∙ e, sym l, le-leb _ _ h) rest
+      nodes-enough h rest = simp (sym p, sym m, sym is ∙ e, sym l, le-leb _ _ h) rest

@@ -2,9 +2,8 @@
 -- Assumes nothing.
 use borrow.Author.Tests.{eq-eqb, ne-eqb, lt-leb}
 use mathlib.Core.Path.{sym, _∙_}
-use Rattle.sections.specs.Section.{variablesOf}
 use Rattle.parsing.specs.Outline.{parsedOf}
-use Rattle.sections.proofs.Laws.Section.{items-most}
+use Rattle.sections.proofs.Laws.Counted.{variables-limit}
 use Rattle.parsing.proofs.Steps.Outline.{variables-counted, variables-refused}
 use borrow.Author.Needs.{needs}
 use Rattle.parsing.proofs.parse.Statement.{statement}
@@ -25,8 +24,7 @@ enum-known-found : tie.Need-enum-known-found
 enum-known-found c = search needs
 
 parse-start-requires : tie.Need-parse-start-requires
-unfolding variablesOf
-parse-start-requires c κs = items-most _ _ _ _ _ _ 12 0 0 (sym (c .before .before .before .variables .ensures) ∙ c .before .found .given .1)
+parse-start-requires c κs = variables-limit _ _ _ (sym (c .before .before .before .variables .ensures) ∙ c .before .found .given .1)
 
 enum-known-found-2 : tie.Need-enum-known-found-2
 enum-known-found-2 c = search needs

@@ -2,7 +2,7 @@
 -- Assumes nothing.
 use native.Mathlib.Omega.{arith}
 use Rattle.truths.proofs.Laws.Answer.{unless-left}
-use Rattle.sections.proofs.Laws.Section.{kind-here}
+use Rattle.records.proofs.Laws.Record.{kind-is}
 use Rattle.parsing.proofs.Steps.Outline.{property-unnamed, property-field, property-ends, property-refused}
 use borrow.Author.Needs.{needs}
 use Rattle.parsing.proofs.parse_property.Statement.{statement}
@@ -15,7 +15,7 @@ returns : tie.Need-returns
 returns c = property-unnamed _ _ _ _ _ (c .before .kind-is .ensures) (c .if1 .taken)
 
 property-fields-requires : tie.Need-property-fields-requires
-property-fields-requires c κs = omega (arith, kind-here _ _ _ (unless-left (c .before .kind-is .ensures) (c .if1 .left)))
+property-fields-requires c κs = omega (arith, kind-is _ _ _ (unless-left (c .before .kind-is .ensures) (c .if1 .left)) .0)
 
 returns-2 : tie.Need-returns-2
 returns-2 c =
@@ -23,10 +23,10 @@ returns-2 c =
     property-field _ _ _ _ _ (f .before .before .kind-is .ensures) (f .before .if1 .left) (f .property-fields .ensures) (c .if2 .taken)
 
 expressions-requires : tie.Need-expressions-requires
-expressions-requires c κs = let i = c .before .before in omega (arith, kind-here _ _ _ (unless-left (i .before .kind-is .ensures) (i .if1 .left)))
+expressions-requires c κs = let i = c .before .before in omega (arith, kind-is _ _ _ (unless-left (i .before .kind-is .ensures) (i .if1 .left)) .0)
 
 add-truths : tie.Need-add-truths
-add-truths c = let i = c .before .before .before in omega (arith, kind-here _ _ _ (unless-left (i .before .kind-is .ensures) (i .if1 .left)))
+add-truths c = let i = c .before .before .before in omega (arith, kind-is _ _ _ (unless-left (i .before .kind-is .ensures) (i .if1 .left)) .0)
 
 truths-requires : tie.Need-truths-requires
 truths-requires c κs = search needs
@@ -37,7 +37,7 @@ enum-known-found c = search needs
 parse-nodes-requires : tie.Need-parse-nodes-requires
 parse-nodes-requires c κs =
     let i = c .before .before .before .before .before .before .before in
-    omega (arith, kind-here _ _ _ (unless-left (i .before .kind-is .ensures) (i .if1 .left)))
+    omega (arith, kind-is _ _ _ (unless-left (i .before .kind-is .ensures) (i .if1 .left)) .0)
 
 enum-known-found-2 : tie.Need-enum-known-found-2
 enum-known-found-2 c = search needs

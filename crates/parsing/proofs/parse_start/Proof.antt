@@ -4,7 +4,7 @@ use native.Mathlib.Omega.{arith}
 use borrow.Author.Tests.{lt-leb}
 use Rattle.parsing.specs.Outline.{startParsed}
 use Rattle.truths.proofs.Laws.Answer.{unless-left}
-use Rattle.sections.proofs.Laws.Section.{kind-here}
+use Rattle.records.proofs.Laws.Record.{kind-is}
 use Rattle.parsing.proofs.Steps.Outline.{start-unnamed, start-field, start-ends, start-refused}
 use borrow.Author.Needs.{needs}
 use Rattle.parsing.proofs.parse_start.Statement.{statement}
@@ -21,13 +21,13 @@ returns-2 : tie.Need-returns-2
 returns-2 c = start-unnamed _ _ _ (c .before .before .if1 .left) (c .before .kind-is .ensures) (c .if2 .taken)
 
 mul-zeros : tie.Need-mul-zeros
-mul-zeros c = omega (arith, kind-here _ _ _ (unless-left (c .before .kind-is .ensures) (c .if2 .left)))
+mul-zeros c = omega (arith, kind-is _ _ _ (unless-left (c .before .kind-is .ensures) (c .if2 .left)) .0)
 
 add-zeros : tie.Need-add-zeros
-add-zeros c = omega (arith, kind-here _ _ _ (unless-left (c .before .kind-is .ensures) (c .if2 .left)))
+add-zeros c = omega (arith, kind-is _ _ _ (unless-left (c .before .kind-is .ensures) (c .if2 .left)) .0)
 
 zeros-requires : tie.Need-zeros-requires
-zeros-requires c κs = omega (arith, kind-here _ _ _ (unless-left (c .before .kind-is .ensures) (c .if2 .left)))
+zeros-requires c κs = omega (arith, kind-is _ _ _ (unless-left (c .before .kind-is .ensures) (c .if2 .left)) .0)
 
 returns-3 : tie.Need-returns-3
 returns-3 c =
@@ -35,7 +35,7 @@ returns-3 c =
     start-field _ _ _ (n .before .if1 .left) (n .kind-is .ensures) (c .before .before .if2 .left) (c .before .zeros .ensures) (c .if3 .taken)
 
 add-walk : tie.Need-add-walk
-add-walk c = let i = c .before .before in omega (arith, kind-here _ _ _ (unless-left (i .before .kind-is .ensures) (i .if2 .left)))
+add-walk c = let i = c .before .before in omega (arith, kind-is _ _ _ (unless-left (i .before .kind-is .ensures) (i .if2 .left)) .0)
 
 walk-requires : tie.Need-walk-requires
 walk-requires c κs = search needs

@@ -3,22 +3,22 @@
 use mathlib.Core.List.{List}
 use Prim.Native.Nat.{ℕ, _+_}
 use native.Mathlib.Omega.{arith}
-use Rattle.parsing.specs.declared.Outline.{Outline}
+use Rattle.shapes.specs.declared.Outline.{Outline}
 use Rattle.records.specs.Kind.{truth}
 use Rattle.records.proofs.Laws.Walk.{walk-bound}
-use Rattle.sections.proofs.Laws.Section.{kind-here}
+use Rattle.records.proofs.Laws.Record.{kind-is}
 use Rattle.parsing.proofs.Laws.Outline.{Parses}
-use Rattle.parsing.proofs.Laws.Parsed.{variables-most, variable-range, transitions-most, nodes-most, edges-end, edge-transition}
+use Rattle.parsing.proofs.Laws.Parsed.{variables-most, variable-range, transitions-most, nodes-most, edges-end, edge-names}
 use Rattle.reading.specs.States.{VariablesFit}
 use Rattle.reading.specs.Edge.{OutlineFits}
 
 module _ (file : List ℕ) (o : Outline) (p : Parses file o) where
   pub ranges : VariablesFit file (o .vars)
-  ranges = let s = kind-here file 0x02 (o .vars) (p .start-named) in record { here = omega arith; ordered = variable-range file o p }
+  ranges = let s = kind-is file 0x02 (o .vars) (p .start-named) .0 in record { here = omega arith; ordered = variable-range file o p }
 
   pub fits : OutlineFits file o
   fits =
-      let q = kind-here file 0x05 (o .property) (p .property-named) in
+      let q = kind-is file 0x05 (o .property) (p .property-named) .0 in
       let e = edges-end file o p in
       record {
         vars-most = variables-most file o p;
@@ -28,5 +28,5 @@ module _ (file : List ℕ) (o : Outline) (p : Parses file o) where
         property-here = omega arith;
         nodes-most = nodes-most file o p;
         edges-here = omega arith;
-        edges-named = edge-transition file o p;
+        edges-named = λ e l. edge-names file o p e l .0;
       }

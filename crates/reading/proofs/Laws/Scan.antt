@@ -2,27 +2,27 @@
 -- it comes to an expression that walks to its end, the analysis passed it, and the scan goes on behind it.
 --     start-scanned, transition-scanned, claimed-scanned, node-scanned     the start, each transition, each expression of the property, each node
 -- Assumes nothing.
-use mathlib.Core.Path.{_≡_, refl, sym, ap, subst, _∙_}
-use mathlib.Core.Bool.{Bool, true, false, cond, and-eq-true-iff}
+use mathlib.Core.Path.{_≡_, sym, ap, _∙_}
+use mathlib.Core.Bool.{true, false}
 use mathlib.Core.List.{List, [], _∷_}
-use Prim.Native.Nat.{ℕ, zero, suc, _+_, _*_, _<_, _≤_}
+use Prim.Native.Nat.{ℕ, _+_, _<_, _≤_}
 use native.Mathlib.Omega.{arith}
-use borrow.Author.Tests.{ltb-true, leb-true, eqb-true}
 use lib.ListN.{length, getD, set, replicate, length-set}
 use lib.Seq.{getD-set-same, getD-set-other}
-use lib.Dec.{ltb, leb, eqb}
 use Rattle.integers.specs.declared.Interval.{Interval}
 use Rattle.records.specs.declared.walk.Walked.{Walked}
-use Rattle.parsing.specs.declared.Outline.{Outline}
-use Rattle.records.specs.Record.{fieldA, kindIs, zerosOf}
+use Rattle.shapes.specs.declared.Outline.{Outline}
+use Rattle.records.specs.Record.{fieldA, kindIs}
 use Rattle.records.specs.Kind.{none, number, truth, within, formOf, signatureOf}
-use Rattle.records.specs.Walk.{andThen, walkOf, truthOf}
-use Rattle.sections.specs.Section.{noFields, transitionFields, assignmentFields, assignmentsOf, transitionOf, transitionsOf, expressionsOf, phasesOr}
-use Rattle.sections.specs.Section.{nodeOf, nodesOf}
-use Rattle.sections.proofs.Laws.Section.{items-reach, sequence-reach}
+use Rattle.records.specs.Walk.{walkOf, truthOf}
+use Rattle.sections.specs.Section.{assignmentFields, transitionOf, expressionsOf, phasesOr}
+use Rattle.records.proofs.Laws.Kind.{head-none}
+use Rattle.sections.proofs.Laws.Section.{sequence-reach, transition-just, assignment-named, assignments-induct, transition-opens, node-opens}
+use Rattle.sections.proofs.Laws.Counted.{transitions-reach, nodes-reach}
 use Rattle.parsing.proofs.Laws.Parsed.{variables-most}
 use Rattle.parsing.proofs.Laws.Through as through
 use Rattle.intervals.specs.Expression.{Expression}
+use Rattle.reading.specs.Edge.{property}
 use Rattle.reading.specs.Readable.{Start, Apart, Assignments, Transition, PropertyExpression, Node}
 use Rattle.intervals.proofs.Laws.Scan.{Scan, Tried, scan-begins, scan-head, scan-expression}
 use Rattle.reading.proofs.Laws.Stage.{Stages}
@@ -64,47 +64,23 @@ module _ (file : List ℕ) (last vars end : ℕ) where
     assignments : Assignments file vars end at variables
     unmarked : Unmarked marks variables
 
-  assigned-none : (marks : List ℕ) (at : ℕ) → kindIs file 0x04 at ≡ false → at ≡ end → Assigned marks at
-  assigned-none marks at k e =
-      let behind = Assignments.none (subst (λ (x : ℕ). kindIs file 0x04 x ≡ false) e k) in
-      record { variables = []; assignments = subst (λ (x : ℕ). Assignments file vars end x []) (sym e) behind; unmarked = tt }
+  assigned-none : (marks : List ℕ) → kindIs file 0x04 end ≡ false → Assigned marks end
+  assigned-none marks k = record { variables = []; assignments = Assignments.none k; unmarked = tt }
 
-  assigned-last : (marks : List ℕ) (at : ℕ) (k f : Bool) → kindIs file 0x04 at ≡ k
-      → cond k (cond f (Walked.Refused 6 at) (Walked.Refused 4 at)) (Walked.End at) ≡ Walked.End end → Assigned marks at
-  assigned-last marks at true true k e = let z : _≡_ {A = ℕ} 0 1 = cc in absurd (omega arith)
-  assigned-last marks at true false k e = let z : _≡_ {A = ℕ} 0 1 = cc in absurd (omega arith)
-  assigned-last marks at false f k e = assigned-none marks at k (cc)
-
-  assigned-more : (marks : List ℕ) → vars ≤ length marks → (at : ℕ) (next : ℕ → Walked)
-      → ((x : ℕ) → next x ≡ Walked.End end → Scan file (Walked.End last) x → Assigned (set marks (fieldA file at) 1) x)
-      → (k f d : Bool) (w : Walked) → kindIs file 0x04 at ≡ k → assignmentFields file vars at ≡ f → eqb (getD marks (fieldA file at) 0) 0 ≡ d
-      → walkOf file vars 16 number (at + 1) ≡ w
-      → cond k (cond f (cond d (andThen w next) (Walked.Refused 6 at)) (Walked.Refused 4 at)) (Walked.End at) ≡ Walked.End end
-      → Scan file (Walked.End last) at → Assigned marks at
-  unfolding assignmentFields within formOf signatureOf
-  assigned-more marks m at next rest true true true (Walked.End x) k f d w e s =
-      let v = passing file last vars number (at + 1) x (λ z. omega arith) w (scan-head file (Walked.End last) 0x04 at refl k s) in
-      let r = rest x e (v .rest) in
-      let below : fieldA file at < vars = ltb-true _ _ (and-eq-true-iff (ltb (fieldA file at) vars) (zerosOf file (8 * at + 2) 6) .0 f .0) in
+  assigned-more : (marks : List ℕ) (at x : ℕ) → kindIs file 0x04 at ≡ true → assignmentFields file vars at ≡ true → getD marks (fieldA file at) 0 ≡ 0
+      → walkOf file vars 16 number (at + 1) ≡ Walked.End x
+      → (vars ≤ length (set marks (fieldA file at) 1) → Scan file (Walked.End last) x → Assigned (set marks (fieldA file at) 1) x)
+      → vars ≤ length marks → Scan file (Walked.End last) at → Assigned marks at
+  assigned-more marks at x k f free w rest m s =
+      let v = passing file last vars number (at + 1) x (λ z. omega arith) w (scan-head file (Walked.End last) 0x04 at (head-none (omega arith)) k s) in
+      let r = rest (rw length-set m) (v .rest) in
+      let below = assignment-named file vars at f in
       let a = apart marks (fieldA file at) (omega arith) (r .variables) (r .unmarked) in
       record {
         variables = fieldA file at ∷ r .variables;
         assignments = Assignments.more k below (v .expression) (r .assignments) (a .0);
-        unmarked = (eqb-true _ _ d, a .1);
+        unmarked = (free, a .1);
       }
-  assigned-more marks m at next rest true true true (Walked.Refused n p) k f d w e s = let z : _≡_ {A = ℕ} 0 1 = cc in absurd (omega arith)
-  assigned-more marks m at next rest true true false w k f d is e s = let z : _≡_ {A = ℕ} 0 1 = cc in absurd (omega arith)
-  assigned-more marks m at next rest true false d w k f is it e s = let z : _≡_ {A = ℕ} 0 1 = cc in absurd (omega arith)
-  assigned-more marks m at next rest false f d w k is it so e s = assigned-none marks at k (cc)
-
-  assigned-all : (left : ℕ) (marks : List ℕ) → vars ≤ length marks → (at : ℕ) → assignmentsOf file vars left marks at ≡ Walked.End end
-      → Scan file (Walked.End last) at → Assigned marks at
-  unfolding assignmentsOf
-  assigned-all zero marks m at e s = assigned-last marks at (kindIs file 0x04 at) (assignmentFields file vars at) refl e
-  assigned-all (suc left) marks m at e s =
-      let a = fieldA file at in
-      assigned-more marks m at (assignmentsOf file vars left (set marks a 1)) (assigned-all left (set marks a 1) (rw length-set m))
-      (kindIs file 0x04 at) (assignmentFields file vars at) (eqb (getD marks a 0) 0) (walkOf file vars 16 number (at + 1)) refl refl refl refl e s
 
   -- ---- a transition: its guard, then its assignments
   record Guarded (at : ℕ) : Type 0 where
@@ -113,18 +89,15 @@ module _ (file : List ℕ) (last vars end : ℕ) where
     guard : Expression file vars 16 truth (at + 1) behind interval
     assigned : Assigned (replicate 12 0) behind
 
-  guarded-by : vars ≤ 12 → (at : ℕ) (w : Walked) → walkOf file vars 16 truth (at + 1) ≡ w
-      → andThen w (assignmentsOf file vars 12 (replicate 12 0)) ≡ Walked.End end → kindIs file 0x03 at ≡ true → Scan file (Walked.End last) at → Guarded at
-  unfolding within formOf signatureOf
-  guarded-by m at (Walked.End i) is e k s =
-      let g = passing file last vars truth (at + 1) i (λ z. omega arith) is (scan-head file (Walked.End last) 0x03 at refl k s) in
-      record { behind = i; interval = g .interval; guard = g .expression; assigned = assigned-all 12 (replicate 12 0) m i e (g .rest) }
-  guarded-by m at (Walked.Refused n p) is e k s = let z : _≡_ {A = ℕ} 0 1 = cc in absurd (omega arith)
-
   guarded : vars ≤ 12 → (at : ℕ) → kindIs file 0x03 at ≡ true → transitionOf file vars at ≡ Walked.End end → Scan file (Walked.End last) at
       → Guarded at
-  unfolding transitionOf
-  guarded m at k e s = guarded-by m at (walkOf file vars 16 truth (at + 1)) refl e k s
+  guarded m at k e s =
+      let t = transition-opens file vars end at e in
+      let head = scan-head file (Walked.End last) 0x03 at (head-none (omega arith)) k s in
+      let g = passing file last vars truth (at + 1) (t .place) (λ z. omega arith) (t .guard) head in
+      let assigned = assignments-induct file vars end (λ marks i. vars ≤ length marks → Scan file (Walked.End last) i → Assigned marks i)
+      (λ marks k l s. assigned-none marks k) assigned-more 12 (replicate 12 0) (t .place) (t .assigns) m (g .rest) in
+      record { behind = t .place; interval = g .interval; guard = g .expression; assigned = assigned }
 
 -- ---- the expressions of a readable file
 module _ (file : List ℕ) (o : Outline) (r : Stages file o) where
@@ -150,19 +123,16 @@ module _ (file : List ℕ) (o : Outline) (r : Stages file o) where
   item-passing kind at end u k w s = passing file last (o .vars) truth (at + 1) end (λ z. omega arith) w (onward-head kind at u k s)
 
   pub start-scanned : Start file o
-  unfolding within formOf signatureOf
   start-scanned =
       let s = through.at-start file o (r .parsed) Onward onward-head onward-expression onward-first in
-      let p = item-passing 0x02 (o .vars) (o .transition) refl (r .parsed .start-named) (r .parsed .start) s in
+      let p = item-passing 0x02 (o .vars) (o .transition) (head-none (omega arith)) (r .parsed .start-named) (r .parsed .start) s in
       record { interval = p .interval; expression = p .expression }
 
   pub transition-scanned : (t : ℕ) → t < o .transitions → Transition file o t
-  unfolding transitionsOf transitionFields
   transition-scanned t l =
       let s = through.at-transitions file o (r .parsed) Onward onward-head onward-expression onward-first in
-      let n = items-reach file 0x03 (transitionFields file) (transitionOf file (o .vars)) Onward
-      (λ i x k e s. through.transition-through file (o .vars) Onward onward-head onward-expression x i k e s)
-      (o .transitions) (o .property) 32 0 (o .transition) (r .parsed .transitions) s t (omega arith) in
+      let n = transitions-reach file (o .vars) (o .transition) (o .transitions) (o .property) (r .parsed .transitions) Onward
+      (λ i x k e s. through.transition-through file (o .vars) Onward onward-head onward-expression x i k e s) s t l in
       let g = guarded file last (o .vars) (n .end) (variables-most file o (r .parsed)) (n .place) (n .named) (n .ends) (n .holds) in
       record {
         place = n .place;
@@ -170,7 +140,7 @@ module _ (file : List ℕ) (o : Outline) (r : Stages file o) where
         end = n .end;
         reached = n .reached;
         named = n .named;
-        just-or-not = leb-true _ _ (and-eq-true-iff (leb (fieldA file (n .place)) 1) (zerosOf file (8 * n .place + 2) 6) .0 (n .right) .0);
+        just-or-not = transition-just file (n .place) (n .right);
         interval = g .interval;
         guard = g .guard;
         assigned = g .assigned .variables;
@@ -186,11 +156,20 @@ module _ (file : List ℕ) (o : Outline) (r : Stages file o) where
       record { place = n .place; end = n .behind; reached = n .reached; interval = p .interval; expression = p .expression }
 
   pub node-scanned : (n : ℕ) → n < o .nodes → Node file o n
-  unfolding nodesOf within formOf signatureOf
   node-scanned n l =
       let s = through.at-nodes file o (r .parsed) Onward onward-head onward-expression onward-first in
-      let h = items-reach file 0x06 (noFields file) (nodeOf file (o .vars)) Onward
-      (λ i x k e s. through.node-through file (o .vars) Onward onward-head onward-expression x i k e s)
-      (o .nodes) (o .edge) (phasesOr file (o .property) 32) 0 (o .node) (r .parsed .nodes) s n (omega arith) in
-      let p = item-passing 0x06 (h .place) (h .end) refl (h .named) (h .ends) (h .holds) in
-      record { place = h .place; end = h .end; reached = h .reached; named = h .named; interval = p .interval; assertion = p .expression }
+      let ranks = property file o .ranks in
+      let h = nodes-reach file (o .vars) ranks (phasesOr file (o .property) 32) (o .node) (o .nodes) (o .edge) (r .parsed .nodes) Onward
+      (λ i x k e s. through.node-through file (o .vars) Onward onward-head onward-expression ranks x i k e s) s n l in
+      let a = node-opens file (o .vars) ranks (h .place) (h .end) (h .ends) in
+      let p = item-passing 0x06 (h .place) (a .mid) (head-none (omega arith)) (h .named) (a .first) (h .holds) in
+      record {
+        place = h .place;
+        mid = a .mid;
+        end = h .end;
+        reached = h .reached;
+        named = h .named;
+        interval = p .interval;
+        assertion = p .expression;
+        ranks = a .rest;
+      }

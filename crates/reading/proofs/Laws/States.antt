@@ -9,9 +9,9 @@ use native.Mathlib.Omega.{arith}
 use borrow.Author.Tests.{leb-true}
 use lib.Dec.{leb}
 use Rattle.records.specs.declared.walk.Walked.{Walked}
-use Rattle.states.specs.State.{lowsOf, highsOf}
+use Rattle.ranges.specs.Range.{lowsOf, highsOf}
 use Rattle.states.specs.Number.{countOf}
-use Rattle.states.proofs.Laws.Product.{productFrom, product-whole, product-more, product-lacked}
+use Rattle.ranges.proofs.Laws.Product.{productFrom, product-whole, product-more, product-lacked}
 use Rattle.states.proofs.Laws.Number.{count-pos}
 use Rattle.reading.specs.States.{sizeAt, statesOf}
 

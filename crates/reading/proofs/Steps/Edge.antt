@@ -1,16 +1,14 @@
 -- What the edge rules say, by the tests in their order.
 -- Assumes nothing.
 use mathlib.Core.Path.{_≡_, refl, subst}
-use mathlib.Core.Bool.{true, false, not}
+use mathlib.Core.Bool.{Bool, true, false, not, Bool·beq}
 use mathlib.Core.List.{List}
 use Prim.Native.Nat.{ℕ, _+_, _-_, _/_, _<_, _≤_}
 use native.Mathlib.Omega.{arith}
-use borrow.Author.Tests.{eq-eqb, ne-eqb, lt-ltb, le-ltb}
-use lib.Dec.{eqb}
+use borrow.Author.Tests.{eq-eqb, ne-eqb, not-true, not-false}
 use lib.ListN.{length, getD}
 use Rattle.records.specs.declared.walk.Walked.{Walked}
-use Rattle.parsing.specs.declared.Outline.{Outline}
-use Rattle.records.specs.Record.{fieldA, fieldB, fieldC, fieldD}
+use Rattle.shapes.specs.declared.Outline.{Outline}
 use Rattle.records.specs.Walk.{inSequence}
 use Rattle.sections.specs.Section.{transitionOf}
 use Rattle.records.specs.Place.{placeOf, placesOf}
@@ -18,7 +16,10 @@ use Rattle.sections.proofs.Laws.Section.{transitions-bound}
 use Rattle.records.proofs.Laws.Place.{places-nth}
 use Rattle.records.specs.Walk.{refuseFirst}
 use Rattle.truths.specs.Search.{any}
-use Rattle.reading.specs.Edge.{transitionAt, single, diagram, descending, justOf, conflictOf, chainRuleOf, ruleOf, doubledOf, doublesOf}
+use Rattle.sections.specs.Section.{edgeAt}
+use Rattle.shapes.specs.declared.Property.{Property}
+use Rattle.shapes.specs.declared.Edge.{Edge}
+use Rattle.reading.specs.Edge.{property, transitionAt, justOf, conflictOf, leadsOf, fallsOf, doubleRuleOf, ruleOf, doubledOf, doublesOf}
 use Rattle.reading.specs.Edge.{OutlineFits, EdgeFits}
 
 -- ---- where a transition stands
@@ -48,70 +49,76 @@ edge-fits file o places at left f p e l m =
       found = p;
       here = omega arith;
       behind = l;
-      named = subst (λ (i : ℕ). fieldA file i < o .transitions) z (f .edges-named (at - o .edge) (omega arith));
+      named = subst (λ (i : ℕ). edgeAt file i .transition < o .transitions) z (f .edges-named (at - o .edge) (omega arith));
     }
 
 -- ---- the rules
-module _ (file : List ℕ) (i j b e : ℕ) (p : b ≡ fieldB file i) (q : e ≡ fieldB file j) where
-  pub conflict-apart : (b ≡ e → ⊥) → conflictOf file i j ≡ false
+module _ (a b : Edge) where
+  pub conflict-apart : (a .from ≡ b .from → ⊥) → conflictOf a b ≡ false
   unfolding conflictOf
-  conflict-apart h = rw (← p, ← q, ne-eqb _ _ h)
+  conflict-apart h = rw (ne-eqb (a .from) (b .from) h)
 
-  module _ (h : b ≡ e) where
-    pub conflict-same : fieldA file i ≡ fieldA file j → conflictOf file i j ≡ not (eqb (fieldD file i) (fieldD file j))
+  module _ (h : a .from ≡ b .from) where
+    pub conflict-same : a .transition ≡ b .transition → conflictOf a b ≡ not (Bool·beq (a .double) (b .double))
     unfolding conflictOf
-    conflict-same t = rw (← p, ← q, eq-eqb _ _ h, eq-eqb _ _ t)
+    conflict-same t = rw (eq-eqb (a .from) (b .from) h, eq-eqb (a .transition) (b .transition) t)
 
-    pub conflict-double : (fieldA file i ≡ fieldA file j → ⊥) → fieldD file i ≡ 1 → conflictOf file i j ≡ eqb (fieldD file j) 1
-    unfolding conflictOf
-    conflict-double t d = rw (← p, ← q, eq-eqb _ _ h, ne-eqb _ _ t, eq-eqb _ _ d)
+    module _ (t : a .transition ≡ b .transition → ⊥) where
+      pub conflict-double : a .double ≡ true → conflictOf a b ≡ b .double
+      unfolding conflictOf
+      conflict-double d = rw (eq-eqb (a .from) (b .from) h, ne-eqb (a .transition) (b .transition) t, d)
 
-    pub conflict-single : (fieldA file i ≡ fieldA file j → ⊥) → (fieldD file i ≡ 1 → ⊥) → conflictOf file i j ≡ false
-    unfolding conflictOf
-    conflict-single t d = rw (← p, ← q, eq-eqb _ _ h, ne-eqb _ _ t, ne-eqb _ _ d)
+      pub conflict-single : a .double ≡ false → conflictOf a b ≡ false
+      unfolding conflictOf
+      conflict-single d = rw (eq-eqb (a .from) (b .from) h, ne-eqb (a .transition) (b .transition) t, d)
 
-module _ (file : List ℕ) (o : Outline) (at : ℕ) where
-  pub chain-conflict : any (λ e. conflictOf file e at) (at - o .edge) (o .edge) ≡ true → chainRuleOf file o at ≡ false
-  unfolding chainRuleOf
-  chain-conflict c = rw c
+module _ (file : List ℕ) (o : Outline) (at : ℕ) {e : Edge} (is : e ≡ edgeAt file at) where
+  abbrev crossed : Bool
+  crossed = any (λ i. conflictOf (edgeAt file i) e) (at - o .edge) (o .edge)
 
-  module _ (c : any (λ e. conflictOf file e at) (at - o .edge) (o .edge) ≡ false) where
-    pub chain-single : fieldD file at ≡ 0 → chainRuleOf file o at ≡ true
-    unfolding chainRuleOf
-    chain-single d = rw (c, eq-eqb _ _ d)
+  pub double-conflict : {c : Bool} → c ≡ crossed → c ≡ true → doubleRuleOf file o at ≡ false
+  unfolding doubleRuleOf
+  double-conflict k c = rw (← is, ← k, c)
 
-    module _ (d : fieldD file at ≡ 0 → ⊥) (to from : ℕ) (p : to ≡ fieldC file at) (q : from ≡ fieldB file at) where
-      pub chain-double : to < from → chainRuleOf file o at ≡ justOf file o (fieldA file at)
-      unfolding chainRuleOf
-      chain-double l = rw (c, ne-eqb _ _ d, ← p, ← q, lt-ltb _ _ l)
+  module _ {crosses : Bool} (k : crosses ≡ crossed) (c : crosses ≡ false) where
+    pub double-single : not (e .double) ≡ true → doubleRuleOf file o at ≡ true
+    unfolding doubleRuleOf
+    double-single d = rw (← is, ← k, c, d)
 
-      pub chain-level : from ≤ to → chainRuleOf file o at ≡ false
-      unfolding chainRuleOf
-      chain-level l = rw (c, ne-eqb _ _ d, ← p, ← q, le-ltb _ _ l)
+    module _ (d : not (e .double) ≡ false) {f : Bool} {p : Property} (row : p ≡ property file o) (g : f ≡ fallsOf p e) where
+      falling : fallsOf (property file o) e ≡ f
+      falling = rw (← row, g) refl
 
-  pub rule-invariance : diagram file o ≡ 1 → ruleOf file o at ≡ single file at
-  unfolding ruleOf
-  rule-invariance i = rw (eq-eqb _ _ i)
+      pub double-rises : not f ≡ true → doubleRuleOf file o at ≡ false
+      unfolding doubleRuleOf
+      double-rises u = rw (← is, ← k, c, d, falling, not-true f u)
 
-  module _ (i : diagram file o ≡ 1 → ⊥) where
-    pub rule-rises : descending file at ≡ false → ruleOf file o at ≡ false
+      pub double-just : not f ≡ false → doubleRuleOf file o at ≡ justOf file o (e .transition)
+      unfolding doubleRuleOf
+      double-just u = rw (← is, ← k, c, d, falling, not-false f u)
+
+  module _ {p : Property} (row : p ≡ property file o) {l : Bool} (g : l ≡ leadsOf p e) where
+    leading : leadsOf (property file o) e ≡ l
+    leading = rw (← row, g) refl
+
+    pub rule-leaves : not l ≡ true → ruleOf file o at ≡ false
     unfolding ruleOf
-    rule-rises f = rw (ne-eqb _ _ i, f)
+    rule-leaves u = rw (← is, leading, not-true l u)
 
-    module _ (f : descending file at ≡ true) where
-      pub rule-waiting : diagram file o ≡ 2 → ruleOf file o at ≡ single file at
+    module _ (u : not l ≡ false) where
+      pub rule-doubles : p .doubles ≡ true → ruleOf file o at ≡ doubleRuleOf file o at
       unfolding ruleOf
-      rule-waiting w = rw (ne-eqb _ _ i, f, eq-eqb _ _ w)
+      rule-doubles d = rw (← is, leading, not-false l u, ← row, d)
 
-      pub rule-chain : (diagram file o ≡ 2 → ⊥) → ruleOf file o at ≡ chainRuleOf file o at
+      pub rule-single : p .doubles ≡ false → ruleOf file o at ≡ not (e .double)
       unfolding ruleOf
-      rule-chain w = rw (ne-eqb _ _ i, f, ne-eqb _ _ w)
+      rule-single d = rw (← is, leading, not-false l u, ← row, d)
 
-module _ (file : List ℕ) (o : Outline) where
-  pub doubles-none : (diagram file o ≡ 3 → ⊥) → doublesOf file o ≡ Walked.End 0
+module _ (file : List ℕ) (o : Outline) {p : Property} (row : p ≡ property file o) where
+  pub doubles-none : not (p .doubles) ≡ true → doublesOf file o ≡ Walked.End 0
   unfolding doublesOf
-  doubles-none c = rw (ne-eqb _ _ c)
+  doubles-none d = rw (← row, not-true (p .doubles) d)
 
-  pub doubles-chain : diagram file o ≡ 3 → doublesOf file o ≡ refuseFirst 10 (doubledOf file o) (o .nodes - 1) 1
+  pub doubles-are : not (p .doubles) ≡ false → doublesOf file o ≡ refuseFirst 10 (doubledOf file o) (o .nodes - p .from) (p .from)
   unfolding doublesOf
-  doubles-chain c = rw (eq-eqb _ _ c)
+  doubles-are d = rw (← row, not-false (p .doubles) d)

@@ -13,7 +13,7 @@ use Rattle.records.specs.declared.walk.Walked.{Walked}
 use Rattle.records.specs.declared.walk.Walked.the-variants.{End, Refused}
 use Rattle.records.specs.Walk.{andThen, inSequence}
 use Rattle.records.specs.Place.{placeOf, placesOf}
-use Rattle.records.proofs.Laws.Table.{length-table, table-at, table-none, table-more, table-rest}
+use Rattle.truths.proofs.Laws.Table.{length-table, table-at, table-none, table-more, table-rest}
 
 -- where part i stands
 abbrev standing : (ℕ → Walked) → ℕ → ℕ → ℕ

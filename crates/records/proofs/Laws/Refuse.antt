@@ -1,6 +1,7 @@
 -- Laws of tests of numbers in a row, the first that fails refused.
 --     refuse-none, refuse-fails, refuse-next     one step, as a loop takes it
 --     refuse-all                                 where none is refused, each passes
+--     refused-first                              one that is refused is one of them
 -- Assumes nothing.
 use mathlib.Core.Path.{_≡_, refl}
 use mathlib.Core.Bool.{Bool, true, false, cond}
@@ -39,3 +40,14 @@ refuse-all number test end (suc left) at e i l = passes (test at) refl e i l (re
     passes true t q zero l later = let z : at + 0 ≡ at = omega arith in rw z t
     passes true t q (suc j) l later = let z : at + suc j ≡ at + 1 + j = omega arith in rw z (later q j (omega arith))
     passes false t q i l later = let z : _≡_ {A = ℕ} 0 1 = cc in absurd (omega arith)
+
+pub refused-first : (number : ℕ) (test : ℕ → Bool) (n place left at : ℕ) → refuseFirst number test left at ≡ Walked.Refused n place
+    → (n ≡ number) × (place < at + left)
+unfolding refuseFirst
+refused-first number test n place zero at e = let z : _≡_ {A = ℕ} 0 1 = cc in absurd (omega arith)
+refused-first number test n place (suc left) at e = by-first (test at) e (refused-first number test n place left (at + 1))
+  where
+    by-first : (b : Bool) → cond b (refuseFirst number test left (at + 1)) (Walked.Refused number at) ≡ Walked.Refused n place
+        → (refuseFirst number test left (at + 1) ≡ Walked.Refused n place → (n ≡ number) × (place < at + 1 + left)) → (n ≡ number) × (place < at + suc left)
+    by-first true q later = let r = later q in (r .0, omega arith)
+    by-first false q later = let z : at ≡ place = cc in (cc, omega arith)

@@ -1,9 +1,13 @@
 -- Laws of the walk that the crates above cite.
 --     walk-opens     an expression that walks to an end: what its record is, and that its operands walk to that end
 --     walk-bound     the end lies behind the record and within the file
---     sequence-induct, sequence-bound     the same of parts in sequence, by induction over them
+--     then-first                          a part and others behind it that end: where the part ends
+--     sequence-none, sequence-next        no part, and one behind a part that ends
+--     sequence-first, sequence-one        parts in sequence that end, from the first on
+--     sequence-induct, sequence-bound     by induction over them: they end within the file too
+--     operands-none, operands-first, operands-one, operands-two     a record's operands that end, by how many there are
 -- Assumes nothing.
-use mathlib.Core.Path.{_≡_, refl}
+use mathlib.Core.Path.{_≡_, refl, sym, _∙_}
 use mathlib.Core.Bool.{Bool, true, false, cond, _&&_, and-eq-true-iff}
 use mathlib.Core.List.{List}
 use Prim.Native.Nat.{ℕ, zero, suc, _+_, _/_, _<_, _≤_}
@@ -13,7 +17,7 @@ use lib.ListN.{length}
 use lib.Dec.{ltb, eqb}
 use Rattle.records.specs.declared.walk.Walked.{Walked}
 use Rattle.records.specs.declared.walk.Walked.the-variants.{End, Refused}
-use Rattle.records.specs.Walk.{expressionFields, andThen, inSequence, recordThen, walkOf}
+use Rattle.records.specs.Walk.{expressionFields, andThen, inSequence, operandsOf, recordThen, walkOf}
 use Rattle.records.specs.Kind.{signatureAt}
 
 -- what is known of a record that passed its tests, where `rest` follows it: the walk of its operands
@@ -40,7 +44,8 @@ record-opens file vars want at rest end e =
     record { here = ltb-true _ _ (b .0); fit = eqb-true _ _ (b .1); right = p .1; operands = p .2 }
 
 pub walk-opens : (file : List ℕ) (vars levels want at end : ℕ) → walkOf file vars (suc levels) want at ≡ End end
-    → let s = signatureAt file at in WalkedRecord file vars want at (inSequence (walkOf file vars levels (s .over)) (s .operands) (at + 1)) end
+    → let s = signatureAt file at in
+    WalkedRecord file vars want at (operandsOf (walkOf file vars levels) (s .first) (s .second) (s .operands) (at + 1)) end
 unfolding walkOf
 walk-opens file vars levels want at end e = record-opens file vars want at _ end e
 
@@ -50,7 +55,39 @@ walk-deepest file vars want at end e =
     let z : _≡_ {A = ℕ} 0 1 = cc (record-opens file vars want at (Refused 5 at) end e .operands) in
     omega arith
 
--- ---- parts in sequence that end at `end`, by induction: Q is shown behind the last part, and carried back past each part that ends
+-- ---- parts in sequence, one at a time
+module _ (part : ℕ → Walked) where
+  pub sequence-none : (at : ℕ) → inSequence part zero at ≡ End at
+  unfolding inSequence
+  sequence-none at = refl
+
+  pub sequence-next : (n at x : ℕ) → part at ≡ End x → inSequence part (suc n) at ≡ inSequence part n x
+  unfolding inSequence
+  sequence-next n at x e = rw e
+
+-- ---- parts in sequence that end at `end`
+module _ (part : ℕ → Walked) (end : ℕ) where
+  -- the first part ends where the others begin
+  pub record First (others : ℕ → Walked) (at : ℕ) : Type 0 where
+    pub mid : ℕ
+    pub first : part at ≡ End mid
+    pub rest : others mid ≡ End end
+
+  first-by : (others : ℕ → Walked) (at : ℕ) (w : Walked) → part at ≡ w → andThen w others ≡ End end → First others at
+  first-by others at (Walked.End mid) is e = record { mid = mid; first = is; rest = e }
+  first-by others at (Walked.Refused number place) is e = let z : _≡_ {A = ℕ} 0 1 = cc in absurd (omega arith)
+
+  pub then-first : (others : ℕ → Walked) (at : ℕ) → andThen (part at) others ≡ End end → First others at
+  then-first others at e = first-by others at (part at) refl e
+
+  pub sequence-first : (n at : ℕ) → inSequence part (suc n) at ≡ End end → First (inSequence part n) at
+  unfolding inSequence
+  sequence-first n = then-first (inSequence part n)
+
+  pub sequence-one : (at : ℕ) → inSequence part 1 at ≡ End end → part at ≡ End end
+  sequence-one at e = let f = sequence-first 0 at e in f .first ∙ sym (sequence-none part (f .mid)) ∙ f .rest
+
+-- by induction: Q is shown behind the last part, and carried back past each part that ends
 module _ (part : ℕ → Walked) (end : ℕ) (Q : ℕ → ℕ → Type 0) (base : Q zero end)
     (back : (n at x : ℕ) → part at ≡ End x → Q n x → Q (suc n) at) where
   part-back : (n at : ℕ) (w : Walked) → part at ≡ w → ((x : ℕ) → inSequence part n x ≡ End end → Q n x) → andThen w (inSequence part n) ≡ End end → Q (suc n) at
@@ -73,12 +110,37 @@ sequence-bound part most bound n at end l e =
     omega arith)
     n at e l
 
+-- ---- a record's operands, the first of sort a and those behind it of sort b, that end at `end`
+module _ (part : ℕ → ℕ → Walked) (a b at end : ℕ) where
+  pub operands-none : operandsOf part a b 0 at ≡ End end → at ≡ end
+  unfolding operandsOf
+  operands-none e = cc
+
+  pub operands-first : (n : ℕ) → operandsOf part a b (suc n) at ≡ End end → First (part a) end (inSequence (part b) n) at
+  unfolding operandsOf
+  operands-first n = then-first (part a) end (inSequence (part b) n) at
+
+  pub operands-one : operandsOf part a b 1 at ≡ End end → part a at ≡ End end
+  operands-one e = let f = operands-first 0 e in f .first ∙ sym (sequence-none (part b) (f .mid)) ∙ f .rest
+
+  pub operands-two : operandsOf part a b 2 at ≡ End end → First (part a) end (part b) at
+  operands-two e = let f = operands-first 1 e in record { mid = f .mid; first = f .first; rest = sequence-one (part b) end (f .mid) (f .rest) }
+
+  operands-bound : (most : ℕ) → ((want i e : ℕ) → part want i ≡ End e → (i < e) × (e ≤ most)) → (n : ℕ) → at ≤ most
+      → operandsOf part a b n at ≡ End end → (at ≤ end) × (end ≤ most)
+  operands-bound most bound zero l e = let z = operands-none e in omega arith
+  operands-bound most bound (suc n) l e =
+      let f = operands-first n e in
+      let x = bound a at (f .mid) (f .first) in
+      let y = sequence-bound (part b) most (bound b) n (f .mid) end (x .1) (f .rest) in
+      omega arith
+
 pub walk-bound : (file : List ℕ) (vars levels want at end : ℕ) → walkOf file vars levels want at ≡ End end → (at < end) × (end ≤ length file / 8)
 walk-bound file vars zero want at end e = absurd (walk-deepest file vars want at end e)
 walk-bound file vars (suc levels) want at end e =
     let o = walk-opens file vars levels want at end e in
     let l = o .here in
-    let over = signatureAt file at .over in
-    let n = signatureAt file at .operands in
-    let b = sequence-bound (walkOf file vars levels over) (length file / 8) (walk-bound file vars levels over) n (at + 1) end (omega arith) (o .operands) in
+    let s = signatureAt file at in
+    let b = operands-bound (walkOf file vars levels) (s .first) (s .second) (at + 1) end (length file / 8) (walk-bound file vars levels) (s .operands)
+    (omega arith) (o .operands) in
     omega arith

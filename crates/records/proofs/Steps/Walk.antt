@@ -1,4 +1,4 @@
--- What the walk does at a record, by the tests in their order, and one step of parts in sequence, as the code takes it.
+-- What the walk does at a record, by the tests in their order, and one step of its operands and of parts in sequence, as the code takes it.
 -- Assumes nothing.
 use mathlib.Core.Path.{_≡_, refl, sym, _∙_}
 use mathlib.Core.Bool.{Bool, true, false, not}
@@ -12,37 +12,65 @@ use Rattle.records.specs.declared.kinds.Signature.{Signature}
 use Rattle.records.specs.declared.walk.Walked.{Walked}
 use Rattle.records.specs.declared.walk.Walked.the-variants.{End, Refused}
 use Rattle.records.specs.Kind.{signatureAt}
-use Rattle.records.specs.Walk.{expressionFields, inSequence, recordThen, walkOf}
+use Rattle.records.specs.Walk.{expressionFields, inSequence, operandsOf, recordThen, walkOf}
 use Rattle.truths.proofs.Laws.Answer.{unless-taken, unless-left}
 
-part-ends : (part : ℕ → Walked) (n at end : ℕ) → 0 < n → part at ≡ End end → inSequence part n at ≡ inSequence part (n - 1) end
-unfolding inSequence
-part-ends part zero at end h e = absurd (omega arith)
-part-ends part (suc n) at end h e = rw (e, sub-one)
+-- operands of one sort are parts in sequence
+one-sort : (part : ℕ → ℕ → Walked) (b n at : ℕ) → operandsOf part b b n at ≡ inSequence (part b) n at
+unfolding operandsOf inSequence
+one-sort part b zero at = refl
+one-sort part b (suc n) at = refl
 
-part-refused : (part : ℕ → Walked) (n at number place : ℕ) → 0 < n → part at ≡ Refused number place → inSequence part n at ≡ Refused number place
-unfolding inSequence
-part-refused part zero at number place h e = absurd (omega arith)
-part-refused part (suc n) at number place h e = rw e
+part-ends : (part : ℕ → ℕ → Walked) (a b n at end : ℕ) → 0 < n → part a at ≡ End end → operandsOf part a b n at ≡ operandsOf part b b (n - 1) end
+unfolding operandsOf
+part-ends part a b zero at end h e = absurd (omega arith)
+part-ends part a b (suc n) at end h e = rw (e, sub-one, one-sort)
 
--- ---- one turn of a loop over parts in sequence, of which `left` are left, from `at` on
-module _ (part : ℕ → Walked) {all : Walked} where
-  pub sequence-none : (left at : ℕ) → all ≡ inSequence part left at → left ≤ 0 → End at ≡ all
-  unfolding inSequence
-  sequence-none zero at inv h = sym inv
-  sequence-none (suc left) at inv h = absurd (omega arith)
+part-refused : (part : ℕ → ℕ → Walked) (a b n at number place : ℕ) → 0 < n → part a at ≡ Refused number place
+    → operandsOf part a b n at ≡ Refused number place
+unfolding operandsOf
+part-refused part a b zero at number place h e = absurd (omega arith)
+part-refused part a b (suc n) at number place h e = rw e
 
-  module _ (left at : ℕ) (inv : all ≡ inSequence part left at) (more : 0 < left) {found : Walked} (is : found ≡ part at) where
+none-left : (part : ℕ → ℕ → Walked) (a b n at : ℕ) → n ≤ 0 → operandsOf part a b n at ≡ End at
+unfolding operandsOf
+none-left part a b zero at h = refl
+none-left part a b (suc n) at h = absurd (omega arith)
+
+-- ---- one turn of a loop over operands, of which `left` are left, from `at` on: the first of these of sort a, the others of sort b
+module _ (part : ℕ → ℕ → Walked) {all : Walked} (a b left at : ℕ) (inv : all ≡ operandsOf part a b left at) where
+  pub operands-none : left ≤ 0 → End at ≡ all
+  operands-none h = sym (inv ∙ none-left part a b left at h)
+
+  module _ (more : 0 < left) {found : Walked} (is : found ≡ part a at) where
+    pub operands-ends : {end : ℕ} → found ≡ End end → all ≡ operandsOf part b b (left - 1) end
+    operands-ends e = inv ∙ part-ends part a b left at _ more (sym is ∙ e)
+
+    pub operands-refused : {number place : ℕ} → found ≡ Refused number place → Refused number place ≡ all
+    operands-refused e = sym (inv ∙ part-refused part a b left at _ _ more (sym is ∙ e))
+
+-- ---- and over parts in sequence: operands of one sort
+module _ (part : ℕ → Walked) {all : Walked} (left at : ℕ) (inv : all ≡ inSequence part left at) where
+  abbrev parts : ℕ → ℕ → Walked
+  parts want = part
+
+  as-operands : all ≡ operandsOf parts 0 0 left at
+  as-operands = inv ∙ sym (one-sort parts 0 left at)
+
+  pub sequence-none : left ≤ 0 → End at ≡ all
+  sequence-none = operands-none parts 0 0 left at as-operands
+
+  module _ (more : 0 < left) {found : Walked} (is : found ≡ part at) where
     pub sequence-ends : {end : ℕ} → found ≡ End end → all ≡ inSequence part (left - 1) end
-    sequence-ends e = inv ∙ part-ends part left at _ more (sym is ∙ e)
+    sequence-ends e = operands-ends parts 0 0 left at as-operands more is e ∙ one-sort parts 0 (left - 1) _
 
     pub sequence-refused : {number place : ℕ} → found ≡ Refused number place → Refused number place ≡ all
-    sequence-refused e = sym (inv ∙ part-refused part left at _ _ more (sym is ∙ e))
+    sequence-refused = operands-refused parts 0 0 left at as-operands more is
 
 -- ---- what the walk does at a record, by the code's tests in their order; `s` is the record's signature
 module _ (file : List ℕ) (vars want at : ℕ) where
   abbrev operands : ℕ → Signature → Walked
-  operands levels s = inSequence (walkOf file vars levels (s .over)) (s .operands) (at + 1)
+  operands levels s = operandsOf (walkOf file vars levels) (s .first) (s .second) (s .operands) (at + 1)
 
   -- a refusal of the record itself comes before anything else
   refused : (levels : ℕ) (w : Walked) → ((rest : Walked) → recordThen file vars want at rest ≡ w) → w ≡ walkOf file vars levels want at

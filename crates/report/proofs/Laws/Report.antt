@@ -3,6 +3,7 @@
 --     report-short     a report of under 32 bytes stays untouched
 --     report-rest      of a longer one the bytes from the 33rd on stay, and its length
 --     set-pair-at      two neighbours of a list, set one after the other
+--     report-number     its first byte is the number, where it has room
 -- Assumes nothing.
 use mathlib.Core.Path.{_≡_, refl, sym, ap}
 use mathlib.Core.List.{List, [], _∷_, _++_}
@@ -35,6 +36,11 @@ module _ (v : Verdict) (report : List ℕ) where
   pub report-short : length report < 32 → report ≡ reportOf v report
   unfolding reportOf
   report-short l = rw (lt-ltb _ _ l)
+
+  -- the number stands first
+  pub report-number : 32 ≤ length report → (rest : List ℕ) × (reportOf v report ≡ v .number ∷ rest)
+  unfolding reportOf reportBytes
+  report-number l = (drop 1 (reportOf v report), rw (le-ltb _ _ l))
 
   pub report-rest : length (v .values) ≡ 12 → 32 ≤ length report
       → (length (reportOf v report) ≡ length report) × (drop 32 (reportOf v report) ≡ drop 32 report)

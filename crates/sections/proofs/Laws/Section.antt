@@ -1,37 +1,33 @@
 -- What a section that was counted holds, and where its items stand.
---     kind-here          a record of a kind is in the file
 --     items-most         no more items than it may
 --     items-single       where items of one record each end
 --     single-nth         such an item passed its tests
 --     items-reach, sequence-reach         each item and each part: where it is, by those before it, that it passed its tests, and what holds there
---     items-through, sequence-through, assignments-through     what holds at the first holds behind the last
+--     items-through, sequence-through     what holds at the first holds behind the last
+--     transition-just, assignment-named   what the first record of a transition says, and that of an assignment names
+--     assignments-induct, assignments-through     by induction over a transition's assignments; so what holds at the first holds behind the last
 --     transition-opens                    a transition's guard and its assignments
 --     transition-bound, transitions-bound     each ends behind its first record and within the file
+--     node-opens         a node's assertion and its ranks
+--     node-bound         it ends behind its first record and within the file
 --     edge-opens         an edge repeats none, and is one record
 -- Assumes nothing.
 use mathlib.Core.Path.{_≡_, refl, ap, subst, _∙_}
 use mathlib.Core.Bool.{Bool, true, false, cond, and-eq-true-iff}
 use mathlib.Core.List.{List}
-use Prim.Native.Nat.{ℕ, zero, suc, _+_, _-_, _/_, _<_, _≤_}
+use Prim.Native.Nat.{ℕ, zero, suc, _+_, _-_, _*_, _/_, _<_, _≤_}
 use native.Mathlib.Omega.{arith}
-use borrow.Author.Tests.{ltb-true}
 use lib.ListN.{length, getD, set, replicate}
-use lib.Dec.{ltb, eqb}
+use borrow.Author.Tests.{ltb-true, leb-true, eqb-true}
+use lib.Dec.{ltb, leb, eqb}
 use Rattle.records.specs.declared.walk.Walked.{Walked}
 use Rattle.records.specs.declared.walk.Walked.the-variants.{End, Refused}
 use Rattle.sections.specs.declared.Section.{Section}
-use Rattle.records.specs.Record.{kindAt, fieldA, kindIs}
+use Rattle.records.specs.Record.{fieldA, kindIs, zerosOf}
 use Rattle.records.specs.Kind.{number, truth}
-use Rattle.records.specs.Walk.{andThen, inSequence, walkOf}
-use Rattle.sections.specs.Section.{assignmentFields, andItems, itemsOf, assignmentsOf, transitionOf, repeatedOf, edgeOf}
-use Rattle.records.proofs.Laws.Walk.{walk-bound, sequence-induct, sequence-bound}
-
--- a record of a kind is in the file
-pub kind-here : (file : List ℕ) (kind at : ℕ) → kindIs file kind at ≡ true → at < length file / 8
-unfolding kindIs
-kind-here file kind at e =
-    let here = ltb at (length file / 8) in
-    ltb-true _ _ (and-eq-true-iff here (eqb (kindAt file at) kind) .0 e .0)
+use Rattle.records.specs.Walk.{andThen, inSequence, walkOf, truthOf}
+use Rattle.sections.specs.Section.{transitionFields, assignmentFields, andItems, itemsOf, assignmentsOf, transitionOf, nodeOf, repeatedOf, edgeOf}
+use Rattle.records.proofs.Laws.Walk.{First, then-first, walk-bound, sequence-induct, sequence-bound, sequence-none, sequence-next}
 
 -- ---- items
 module _ (file : List ℕ) (kind : ℕ) (fields : ℕ → Bool) (item : ℕ → Walked) where
@@ -90,11 +86,11 @@ module _ (file : List ℕ) (kind : ℕ) (fields : ℕ → Bool) (item : ℕ → 
 
       reach-back : (n at x : ℕ) → kindIs file kind at ≡ true → fields at ≡ true → item at ≡ End x → (P x → (i : ℕ) → n + 1 + i < m → Reached i x)
           → P at → (i : ℕ) → n + i < m → Reached i at
-      unfolding inSequence
-      reach-back n at x k f w h p zero l = record { place = at; end = x; reached = refl; named = k; right = f; ends = w; holds = p }
+      reach-back n at x k f w h p zero l = record { place = at; end = x; reached = sequence-none item at; named = k; right = f; ends = w; holds = p }
       reach-back n at x k f w h p (suc i) l =
           let r = h (step at x k w p) i (omega arith) in
-          record { place = r .place; end = r .end; reached = rw w (r .reached); named = r .named; right = r .right; ends = r .ends; holds = r .holds }
+          let reached = sequence-next item i at x w ∙ r .reached in
+          record { place = r .place; end = r .end; reached = reached; named = r .named; right = r .right; ends = r .ends; holds = r .holds }
 
       pub items-reach : (left n at : ℕ) → Counted m end left n at → P at → (i : ℕ) → n + i < m → Reached i at
       items-reach =
@@ -114,40 +110,59 @@ module _ (part : ℕ → Walked) (P : ℕ → Type 0) (step : (i x : ℕ) → pa
   sequence-through = sequence-induct part end (λ n at. P at → P end) (λ p. p) (λ n at x is h p. h (step at x is p))
 
   part-back : (n at x : ℕ) → part at ≡ End x → (P x → (i : ℕ) → i < n → Part i x) → P at → (i : ℕ) → i < suc n → Part i at
-  unfolding inSequence
-  part-back n at x is h p zero l = record { place = at; behind = x; reached = refl; ends = is; holds = p }
+  part-back n at x is h p zero l = record { place = at; behind = x; reached = sequence-none part at; ends = is; holds = p }
   part-back n at x is h p (suc i) l =
       let r = h (step at x is p) i (omega arith) in
-      record { place = r .place; behind = r .behind; reached = rw is (r .reached); ends = r .ends; holds = r .holds }
+      record { place = r .place; behind = r .behind; reached = sequence-next part i at x is ∙ r .reached; ends = r .ends; holds = r .holds }
 
   pub sequence-reach : (n at : ℕ) → inSequence part n at ≡ End end → P at → (i : ℕ) → i < n → Part i at
   sequence-reach = sequence-induct part end (λ n at. P at → (i : ℕ) → i < n → Part i at) (λ p i l. absurd (omega arith)) part-back
 
 -- ---- transitions
+pub transition-just : (file : List ℕ) (at : ℕ) → transitionFields file at ≡ true → fieldA file at ≤ 1
+unfolding transitionFields
+transition-just file at right = leb-true _ _ (and-eq-true-iff (leb (fieldA file at) 1) (zerosOf file (8 * at + 2) 6) .0 right .0)
+
+pub assignment-named : (file : List ℕ) (vars at : ℕ) → assignmentFields file vars at ≡ true → fieldA file at < vars
+unfolding assignmentFields
+assignment-named file vars at right = ltb-true _ _ (and-eq-true-iff (ltb (fieldA file at) vars) (zerosOf file (8 * at + 2) 6) .0 right .0)
+
 module _ (file : List ℕ) (vars end : ℕ) where
-  -- what is carried past each assignment is carried past all
-  module _ (P : ℕ → Type 0) (step : (i x : ℕ) → kindIs file 0x04 i ≡ true → walkOf file vars 16 number (i + 1) ≡ End x → P i → P x) where
-    assign-over : (at : ℕ) (k f : Bool) → cond k (cond f (Refused 6 at) (Refused 4 at)) (End at) ≡ End end → P at → P end
-    assign-over at true true e p = let z : _≡_ {A = ℕ} 0 1 = cc in absurd (omega arith)
-    assign-over at true false e p = let z : _≡_ {A = ℕ} 0 1 = cc in absurd (omega arith)
-    assign-over at false f e p = let z : at ≡ end = cc in subst P z p
+  -- by induction over the assignments, with the marks of the variables assigned before: Q is shown behind the last, and carried back past each
+  module _ (Q : List ℕ → ℕ → Type 0) (base : (assigned : List ℕ) → kindIs file 0x04 end ≡ false → Q assigned end)
+      (back : (assigned : List ℕ) (at x : ℕ) → kindIs file 0x04 at ≡ true → assignmentFields file vars at ≡ true → getD assigned (fieldA file at) 0 ≡ 0
+      → walkOf file vars 16 number (at + 1) ≡ End x → Q (set assigned (fieldA file at) 1) x → Q assigned at) where
+    assign-none : (assigned : List ℕ) (at : ℕ) → kindIs file 0x04 at ≡ false → End at ≡ End end → Q assigned at
+    assign-none assigned at k e = let z : at ≡ end = cc in rw z (base assigned (rw z at k))
 
-    assign-through : (at : ℕ) (next : ℕ → Walked) → ((x : ℕ) → next x ≡ End end → P x → P end)
-        → (k f d : Bool) (w : Walked) → kindIs file 0x04 at ≡ k → walkOf file vars 16 number (at + 1) ≡ w
-        → cond k (cond f (cond d (andThen w next) (Refused 6 at)) (Refused 4 at)) (End at) ≡ End end → P at → P end
-    assign-through at next h true true true (Walked.End x) k w e p = h x e (step at x k w p)
-    assign-through at next h true true true (Walked.Refused n q) k w e p = let z : _≡_ {A = ℕ} 0 1 = cc in absurd (omega arith)
-    assign-through at next h true true false w k is e p = let z : _≡_ {A = ℕ} 0 1 = cc in absurd (omega arith)
-    assign-through at next h true false d w k is e p = let z : _≡_ {A = ℕ} 0 1 = cc in absurd (omega arith)
-    assign-through at next h false f d w k is e p = let z : at ≡ end = cc in subst P z p
+    assign-over : (assigned : List ℕ) (at : ℕ) (k f : Bool) → kindIs file 0x04 at ≡ k → cond k (cond f (Refused 6 at) (Refused 4 at)) (End at) ≡ End end
+        → Q assigned at
+    assign-over assigned at true true k e = let z : _≡_ {A = ℕ} 0 1 = cc in absurd (omega arith)
+    assign-over assigned at true false k e = let z : _≡_ {A = ℕ} 0 1 = cc in absurd (omega arith)
+    assign-over assigned at false f k e = assign-none assigned at k e
 
-    pub assignments-through : (left : ℕ) (assigned : List ℕ) (at : ℕ) → assignmentsOf file vars left assigned at ≡ End end → P at → P end
+    assign-back : (assigned : List ℕ) (at : ℕ) (next : ℕ → Walked) → ((x : ℕ) → next x ≡ End end → Q (set assigned (fieldA file at) 1) x)
+        → (k f d : Bool) (w : Walked) → kindIs file 0x04 at ≡ k → assignmentFields file vars at ≡ f → eqb (getD assigned (fieldA file at) 0) 0 ≡ d
+        → walkOf file vars 16 number (at + 1) ≡ w → cond k (cond f (cond d (andThen w next) (Refused 6 at)) (Refused 4 at)) (End at) ≡ End end → Q assigned at
+    assign-back assigned at next h true true true (Walked.End x) k f d w e = back assigned at x k f (eqb-true _ _ d) w (h x e)
+    assign-back assigned at next h true true true (Walked.Refused n q) k f d w e = let z : _≡_ {A = ℕ} 0 1 = cc in absurd (omega arith)
+    assign-back assigned at next h true true false w k f d is e = let z : _≡_ {A = ℕ} 0 1 = cc in absurd (omega arith)
+    assign-back assigned at next h true false d w k f is it e = let z : _≡_ {A = ℕ} 0 1 = cc in absurd (omega arith)
+    assign-back assigned at next h false f d w k is it so e = assign-none assigned at k e
+
+    pub assignments-induct : (left : ℕ) (assigned : List ℕ) (at : ℕ) → assignmentsOf file vars left assigned at ≡ End end → Q assigned at
     unfolding assignmentsOf
-    assignments-through zero assigned at e p = assign-over at (kindIs file 0x04 at) (assignmentFields file vars at) e p
-    assignments-through (suc left) assigned at e p =
+    assignments-induct zero assigned at e = assign-over assigned at (kindIs file 0x04 at) (assignmentFields file vars at) refl e
+    assignments-induct (suc left) assigned at e =
         let a = fieldA file at in
-        assign-through at (assignmentsOf file vars left (set assigned a 1)) (assignments-through left (set assigned a 1))
-        (kindIs file 0x04 at) (assignmentFields file vars at) (eqb (getD assigned a 0) 0) (walkOf file vars 16 number (at + 1)) refl refl e p
+        assign-back assigned at (assignmentsOf file vars left (set assigned a 1)) (assignments-induct left (set assigned a 1))
+        (kindIs file 0x04 at) (assignmentFields file vars at) (eqb (getD assigned a 0) 0) (walkOf file vars 16 number (at + 1)) refl refl refl refl e
+
+  -- what is carried past each assignment is carried past all
+  pub assignments-through : (P : ℕ → Type 0) → ((i x : ℕ) → kindIs file 0x04 i ≡ true → walkOf file vars 16 number (i + 1) ≡ End x → P i → P x)
+      → (left : ℕ) (assigned : List ℕ) (at : ℕ) → assignmentsOf file vars left assigned at ≡ End end → P at → P end
+  assignments-through P step =
+      assignments-induct (λ assigned at. P at → P end) (λ assigned k p. p) (λ assigned at x k f d w h p. h (step at x k w p))
 
   -- a transition: where its guard ends, and its assignments from there on
   pub record Guarded (at : ℕ) : Type 0 where
@@ -175,6 +190,18 @@ pub transitions-bound : (file : List ℕ) (vars t first end : ℕ) → first ≤
     → end ≤ length file / 8
 transitions-bound file vars t first end l e =
     sequence-bound (transitionOf file vars) (length file / 8) (λ i x. transition-bound file vars x i) t first end l e .1
+
+-- ---- a node: where its assertion ends, and its ranks from there on
+module _ (file : List ℕ) (vars ranks at end : ℕ) (e : nodeOf file vars ranks at ≡ End end) where
+  pub node-opens : First (truthOf file vars) end (inSequence (walkOf file vars 16 number) ranks) (at + 1)
+  node-opens = then-first (truthOf file vars) end (inSequence (walkOf file vars 16 number) ranks) (at + 1) e
+
+  pub node-bound : (at < end) × (end ≤ length file / 8)
+  node-bound =
+      let n = node-opens in
+      let a = walk-bound file vars 16 truth (at + 1) (n .mid) (n .first) in
+      let b = sequence-bound (walkOf file vars 16 number) (length file / 8) (walk-bound file vars 16 number) ranks (n .mid) end (a .1) (n .rest) in
+      omega arith
 
 -- ---- an item of one record that passed its test
 module _ (file : List ℕ) (kind : ℕ) (fields : ℕ → Bool) (item : ℕ → Walked) (single : (i e : ℕ) → item i ≡ End e → e ≡ i + 1) where

@@ -1,26 +1,39 @@
 -- One turn of a section's loop: what all of the section is, by the code's tests of the next record in their order.
 -- Assumes nothing.
-use mathlib.Core.Path.{_≡_, refl, sym, _∙_}
-use mathlib.Core.Bool.{Bool, true, false, not, and-eq-true-iff}
+use mathlib.Core.Path.{_≡_, refl, sym, ap, _∙_}
+use mathlib.Core.Bool.{Bool, true, false, not}
 use mathlib.Core.List.{List}
-use Prim.Native.Nat.{ℕ, zero, suc, _+_, _-_, _*_, _/_, _<_}
+use Prim.Native.Nat.{ℕ, zero, suc, _+_, _-_, _/_, _<_, _≤_}
 use native.Mathlib.Numerals.{sub-one}
 use native.Mathlib.Omega.{arith}
-use borrow.Author.Tests.{ltb-true, eq-eqb, ne-eqb}
+use borrow.Author.Tests.{eq-eqb, ne-eqb}
 use lib.ListN.{length, getD, set}
-use lib.Dec.{ltb}
 use Rattle.records.specs.declared.walk.Walked.{Walked}
 use Rattle.sections.specs.declared.Section.{Section}
-use Rattle.records.specs.Record.{fieldA, kindIs, zerosOf}
+use Rattle.sections.specs.declared.Item.{Item}
+use Rattle.sections.specs.declared.Item.the-variants.{Variable, Transition, Node, Edge}
+use Rattle.records.specs.Record.{fieldA, kindIs}
 use Rattle.records.specs.Kind.{number}
 use Rattle.records.specs.Walk.{walkOf}
-use Rattle.sections.specs.Section.{assignmentFields, itemsOf, assignmentsOf, repeatedOf, edgeOf}
+use Rattle.shapes.specs.declared.Claim.{Claim}
+use Rattle.shapes.specs.declared.Property.{Property}
+use Rattle.shapes.specs.Property.{propertyOf}
+use Rattle.sections.specs.Section.{phasesFit, assignmentFields, itemsOf, assignmentsOf}
+use Rattle.sections.specs.Item.{itemOf, Walkable}
 use Rattle.truths.proofs.Laws.Answer.{if-taken, if-left, unless-taken, unless-left}
-use Rattle.sections.proofs.Laws.Section.{kind-here}
+use Rattle.records.proofs.Laws.Record.{kind-is}
+use Rattle.sections.proofs.Laws.Section.{assignment-named, transition-bound, node-bound, edge-opens}
 
 -- where a call finds the record to be of its kind, it is in the file
 pub found-here : (file : List ℕ) (kind at : ℕ) {named : Bool} → named ≡ kindIs file kind at → named ≡ true → at < length file / 8
-found-here file kind at k t = kind-here file kind at (if-taken k t)
+found-here file kind at k t = kind-is file kind at (if-taken k t) .0
+
+-- ---- the property
+pub row-is : {c d : Claim} {p : Property} → p ≡ propertyOf c → c ≡ d → p ≡ propertyOf d
+row-is e f = e ∙ ap propertyOf f
+
+pub phases-are : {a b : ℕ} {p q : Property} {fit : Bool} → p ≡ q → a ≡ b → fit ≡ phasesFit (p .phased) a → fit ≡ phasesFit (q .phased) b
+phases-are e f is = is ∙ rw (e, f) refl
 
 -- ---- items: n lie before `at`, and at most `left` more may follow
 module _ (file : List ℕ) (kind : ℕ) (fields : ℕ → Bool) (item : ℕ → Walked) where
@@ -55,19 +68,29 @@ module _ (file : List ℕ) (kind : ℕ) (fields : ℕ → Bool) (item : ℕ → 
           items-refused zero inv h e = absurd (h refl)
           items-refused (suc left) inv h e = sym (inv ∙ rw (if-taken k t, unless-left f r, sym w ∙ e))
 
--- an edge by itself: whether it repeats one of those before it
-module _ (file : List ℕ) (first at : ℕ) {repeats : Bool} (is : repeats ≡ repeatedOf file at first (at - first)) where
-  pub edge-again : repeats ≡ true → Walked.Refused 6 at ≡ edgeOf file first at
-  edge-again t = rw (if-taken is t)
+-- ---- an item by itself
+module _ (file : List ℕ) where
+  -- it ends behind its first record
+  pub item-onward : (item : Item) (at end : ℕ) → itemOf file item at ≡ Walked.End end → at < end
+  unfolding itemOf
+  item-onward Variable at end e = let z : at + 1 ≡ end = cc in omega arith
+  item-onward (Transition vars) at end e = transition-bound file vars end at e .0
+  item-onward (Node vars ranks) at end e = node-bound file vars ranks at end e .0
+  item-onward (Edge transitions nodes first) at end e = let z = edge-opens file first at end e .1 in omega arith
 
-  pub edge-ends : repeats ≡ false → Walked.End (at + 1) ≡ edgeOf file first at
-  edge-ends t = rw (if-left is t)
+  -- one that may begin where the file ends, so that more of it must follow, ends within the file
+  pub item-within : (item : Item) → ((i : ℕ) → i ≤ length file / 8 → Walkable file item i) → (at end : ℕ) → itemOf file item at ≡ Walked.End end
+      → end ≤ length file / 8
+  unfolding itemOf
+  item-within Variable w at end e = absurd (omega (arith, w (length file / 8) (omega arith)))
+  item-within (Transition vars) w at end e = transition-bound file vars end at e .1
+  item-within (Node vars ranks) w at end e = node-bound file vars ranks at end e .1
+  item-within (Edge transitions nodes first) w at end e = absurd (omega (arith, w (length file / 8) (omega arith) .1))
 
 -- ---- assignments
 -- the variable assigned is one of the file's
 pub assigned-below : (file : List ℕ) (vars at : ℕ) {right : Bool} → right ≡ assignmentFields file vars at → not right ≡ false → fieldA file at < vars
-unfolding assignmentFields
-assigned-below file vars at f r = ltb-true _ _ (and-eq-true-iff (ltb (fieldA file at) vars) (zerosOf file (8 * at + 2) 6) .0 (unless-left f r) .0)
+assigned-below file vars at f r = assignment-named file vars at (unless-left f r)
 
 module _ (file : List ℕ) (vars : ℕ) (assigned : List ℕ) where
   module _ {all : Walked} (at : ℕ) {named : Bool} (k : named ≡ kindIs file 0x04 at) where

@@ -1,78 +1,16 @@
--- `sections::node_places`: the entries before i are filled, and the node that is next stands where those before it end.
+-- `sections::node_places` meets its contract: the places of nodes.
 -- Assumes nothing.
 use borrow.Author.Needs.{needs}
-use native.Mathlib.Omega.{arith}
-use mathlib.Core.Path.{sym, _∙_}
-use Prim.Native.Nat.{_-_, _/_, _≤_}
-use lib.ListN.{length}
-use Rattle.sections.specs.Section.{nodeOf}
-use Rattle.records.proofs.Laws.Walk.{walk-bound}
-use Rattle.records.proofs.Laws.Place.{Filled, filled-begins, filled-done, filled-more, filled-refused}
+use Rattle.sections.specs.Item.{itemOf}
 use Rattle.sections.proofs.node_places.Statement.{statement}
 use Rattle.sections.proofs.node_places.Tie as tie
 
-abbrev Inv-loop : tie.InvT-loop
-Inv-loop file vars n first places₀ next₀ i₀ places next i = Filled (nodeOf file vars) n first places i next × (next ≤ length file / 8)
+places-requires : tie.Need-places-requires
+places-requires c κs = search needs
 
-abbrev μ-loop : tie.MeasureT-loop
-μ-loop file vars n first places₀ next₀ i₀ places next i = n - i
-
-loop-holds : tie.Need-loop-holds Inv-loop μ-loop
-loop-holds c = (filled-begins (nodeOf _ _) _ _ (c .before .pre .0), c .before .pre .1)
-
-mul-places : tie.Need-mul-places Inv-loop μ-loop
-mul-places c = search needs
-
-array-write-places : tie.Need-array-write-places Inv-loop μ-loop
-array-write-places c = search needs
-
-add-walk : tie.Need-add-walk Inv-loop μ-loop
-add-walk c = omega arith
-
-walk-requires : tie.Need-walk-requires Inv-loop μ-loop
-walk-requires c κs = tt
-
-enum-known-item : tie.Need-enum-known-item Inv-loop μ-loop
-enum-known-item c = search needs
-
-enum-told : tie.Need-enum-told Inv-loop μ-loop
-enum-told c = search needs
-
-returns : tie.Need-returns Inv-loop μ-loop
-returns c =
-    let refused = sym (c .before .before .walk .ensures) ∙ c .enum-told .given .1 in
-    filled-refused _ _ _ _ _ _ (c .before .before .before .before .loop .inv .0) (c .before .before .before .loop-test .taken) _ _ refused
-
-add-i : tie.Need-add-i Inv-loop μ-loop
-add-i c = omega arith
-
-loop-less : tie.Need-loop-less Inv-loop μ-loop
-loop-less c = omega arith
-
-loop-again : tie.Need-loop-again Inv-loop μ-loop
-loop-again c =
-    let turn = c .before .before .before .before in
-    let ends = sym (c .before .before .before .walk .ensures) ∙ c .before .item .given .1 in
-    (filled-more _ _ _ _ _ _ (turn .before .loop .inv .0) (turn .loop-test .taken) _ ends, walk-bound _ _ _ _ _ _ ends .1)
-
-returns-2 : tie.Need-returns-2 Inv-loop μ-loop
-returns-2 c = filled-done _ _ _ _ _ _ (c .before .loop .inv .0) (c .loop-test .left)
+returns : tie.Need-returns
+unfolding itemOf
+returns c = c .places .ensures
 
 pub node-places-spec : {M : Type 1} → statement M
-node-places-spec =
-    tie.close
-    (tie.spec
-    Inv-loop
-    μ-loop
-    loop-holds
-    mul-places
-    array-write-places
-    add-walk
-    walk-requires
-    enum-known-item
-    enum-told
-    returns
-    add-i
-    loop-less
-    loop-again
-    returns-2)
+node-places-spec = tie.close (tie.spec places-requires returns)

@@ -5,63 +5,58 @@
 --     state-run           and a state by itself: a run "begins in any state"
 --     idle-run            and a state for ever
 -- Assumes nothing.
-use mathlib.Core.Path.{_≡_, refl}
+use mathlib.Core.Path.{refl, _∙_}
 use mathlib.Core.Logic.{inl, inr}
 use mathlib.Core.List.{List, [], _∷_}
 use Prim.Native.Nat.{ℕ, zero, suc, _<_}
 use native.Mathlib.Omega.{arith}
 use lib.Dec.{T}
 use lib.IntN.{ℤ}
-use Rattle.parsing.specs.declared.Outline.{Outline}
-use Rattle.reading.specs.declared.Reading.{Reading}
-use Rattle.reading.specs.Edge.{transitionAt}
-use Rattle.reading.specs.Read.{readOf}
-use Rattle.states.specs.State.{State}
-use Rattle.evaluating.specs.Transition.{enabledOf}
-use Rattle.evaluating.proofs.Laws.Readable as readable
-use Rattle.testing.specs.Holding.{guardHolds, valuesFit, nextState}
+use Rattle.diagrams.specs.declared.Diagram.{Diagram}
+use Rattle.diagrams.specs.Diagram.{State}
+use Rattle.diagrams.specs.System.{nextState}
+use Rattle.diagrams.proofs.Laws.System.{enabled-and, successor-state as successor-within}
 use Rattle.runs.specs.Run.{Run, finite, endless, Position, at, enabled, Next, IsRun}
 use Rattle.runs.proofs.Laws.Run.{earlier}
 use Rattle.soundness.specs.System.{systemOf}
 use Rattle.truths.proofs.Laws.Truth.{is-true}
 
-module _ (file : List ℕ) (o : Outline) (s : List ℤ) (w : State file (o .vars) s) where
-  pub state-run : IsRun (systemOf file o) (finite s [])
+module _ (file : List ℕ) (g : Diagram) (s : List ℤ) (w : State g s) where
+  pub state-run : IsRun (systemOf file g) (finite s [])
   state-run = record { states = states; steps = steps }
     where
-      states : (n : ℕ) → Position (finite s []) n → State file (o .vars) (at (finite s []) n)
+      states : (n : ℕ) → Position (finite s []) n → State g (at (finite s []) n)
       states zero p = w
       states (suc n) p = absurd (omega arith)
 
-      steps : (n : ℕ) → Position (finite s []) (suc n) → Next (systemOf file o) (at (finite s []) n) (at (finite s []) (suc n))
+      steps : (n : ℕ) → Position (finite s []) (suc n) → Next (systemOf file g) (at (finite s []) n) (at (finite s []) (suc n))
       steps n p = absurd (omega arith)
 
-  pub idle-run : IsRun (systemOf file o) (endless (λ n. s))
+  pub idle-run : IsRun (systemOf file g) (endless (λ n. s))
   idle-run = record { states = λ n p. w; steps = λ n p. inl refl }
 
-module _ (file : List ℕ) (o : Outline) (r : readOf file ≡ Reading.Readable o) where
-  pub successor-state : (s : List ℤ) → State file (o .vars) s → (t : ℕ) → T (enabled (systemOf file o) t s) → State file (o .vars) (nextState file o t s)
-  unfolding nextState guardHolds valuesFit enabledOf
-  successor-state s w t e = readable.successor-within file o r s w (transitionAt file o t) (is-true _ e)
+module _ (file : List ℕ) (g : Diagram) where
+  pub successor-state : (s : List ℤ) → State g s → (t : ℕ) → T (enabled (systemOf file g) t s) → State g (nextState file g t s)
+  successor-state s w t e = successor-within file g t s w (enabled-and file g t s ∙ is-true _ e)
 
-  next-state : {s s′ : List ℤ} → State file (o .vars) s → Next (systemOf file o) s s′ → State file (o .vars) s′
+  next-state : {s s′ : List ℤ} → State g s → Next (systemOf file g) s s′ → State g s′
   next-state w (inl e) = rw e w
   next-state {s} w (inr (t, l, (e, is))) = rw is (successor-state s w t e)
 
-  module _ (run : Run (List ℤ)) (w : State file (o .vars) (at run 0))
-      (steps : (n : ℕ) → Position run (suc n) → Next (systemOf file o) (at run n) (at run (suc n))) where
-    pub steps-run : IsRun (systemOf file o) run
+  module _ (run : Run (List ℤ)) (w : State g (at run 0))
+      (steps : (n : ℕ) → Position run (suc n) → Next (systemOf file g) (at run n) (at run (suc n))) where
+    pub steps-run : IsRun (systemOf file g) run
     steps-run = record { states = states; steps = steps }
       where
-        states : (n : ℕ) → Position run n → State file (o .vars) (at run n)
+        states : (n : ℕ) → Position run n → State g (at run n)
         states zero p = w
         states (suc n) p = next-state (states n (earlier run n p)) (steps n p)
 
-  pub step-run : (s : List ℤ) → State file (o .vars) s → (t : ℕ) → T (enabled (systemOf file o) t s) → t < o .transitions
-      → IsRun (systemOf file o) (finite s (nextState file o t s ∷ []))
-  step-run s w t e l = steps-run (finite s (nextState file o t s ∷ [])) w steps
+  pub step-run : (s : List ℤ) → State g s → (t : ℕ) → T (enabled (systemOf file g) t s) → t < g .transitions
+      → IsRun (systemOf file g) (finite s (nextState file g t s ∷ []))
+  step-run s w t e l = steps-run (finite s (nextState file g t s ∷ [])) w steps
     where
-      steps : (n : ℕ) → Position (finite s (nextState file o t s ∷ [])) (suc n)
-          → Next (systemOf file o) (at (finite s (nextState file o t s ∷ [])) n) (at (finite s (nextState file o t s ∷ [])) (suc n))
+      steps : (n : ℕ) → Position (finite s (nextState file g t s ∷ [])) (suc n)
+          → Next (systemOf file g) (at (finite s (nextState file g t s ∷ [])) n) (at (finite s (nextState file g t s ∷ [])) (suc n))
       steps zero p = inr (t, l, (e, refl))
       steps (suc n) p = absurd (omega arith)

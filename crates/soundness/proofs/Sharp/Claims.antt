@@ -1,7 +1,7 @@
 -- What a file claims is no weaker than document 01 says, and no stronger: small files with the system of Files.antt, each with a claim that is false of its
 -- runs, or true. By a weaker definition of `Claimed` a false claim would be true, by a stronger one a true claim false.
 --                           claim     the clause that it protects
---     no-kind               false     the property is of one of the three kinds
+--     no-kind               false     of any file: there is no other kind
 --     invariance-q          false     q holds at every position, from a starting state
 --     invariance-range      false     values in range, in each node from 0 to the last, of each transition
 --     invariance-node       true      values in range in the nodes only
@@ -13,7 +13,7 @@
 --     chain-node            false     some node is true there
 --     chain-range           false     values in range, in each node from 1 to the last
 --     chain-goal            true      where p holds only, the q behind p, all nodes; in the goal a value may be out of range; a = 3 claims no invariance
--- In an invariance, p and every q are its one q. Behind the last q none is true, so a wait-for with a larger m claims the same.
+-- In an invariance, p and every q are its one q; in a chain, every q is. Behind a wait-for's last q none is true: with a larger m it claims the same.
 -- Assumes nothing.
 use mathlib.Core.Path.{_≡_, refl, subst}
 use mathlib.Core.Logic.{inl}
@@ -24,22 +24,23 @@ use native.Mathlib.Nat.{le-refl, add-zero}
 use native.Mathlib.Omega.{arith}
 use lib.Dec.{T, T-not, lit<, lit≤}
 use lib.IntN.{ℤ}
-use Rattle.parsing.specs.declared.Outline.{Outline}
-use Rattle.reading.proofs.Files.{double, plain, true}
-use Rattle.testing.specs.Diagram.{nodeHolds, pHolds, qHolds}
+use Rattle.diagrams.specs.declared.Diagram.{Diagram}
+use Rattle.diagrams.proofs.Files.{double, plain, true}
+use Rattle.diagrams.specs.Truth.{nodeHolds, pHolds, qHolds}
 use Rattle.runs.specs.Run.{Run, finite, Just, KJust, at}
 use Rattle.runs.specs.Claim.{Waiting}
+use Rattle.shapes.specs.declared.Claim.{Claim as Kind}
 use Rattle.soundness.specs.System.{systemOf, Claimed, Claim}
-use Rattle.testing.proofs.Computing.{computing}
-use Rattle.testing.proofs.Values.{v, state}
+use Rattle.soundness.proofs.Sharp.Computing.{claiming}
+use Rattle.diagrams.proofs.Values.{v, state}
 use Rattle.soundness.proofs.Laws.System.{state-run, step-run, idle-run}
-use Rattle.soundness.proofs.Sharp.Files.{Case, is, invariance, wait-for, chain, file, outline, claims, refuted}
+use Rattle.soundness.proofs.Sharp.Files.{Case, is, invariance, wait-for, chain, file, diagram, claims, refuted}
 
 -- ---- kinds
--- a file without records has no property; with one field less `Claimed` would say nothing of it, and so be true
-pub no-kind : (o : Outline) → Claimed [] o → ⊥
-unfolding computing
-no-kind o c = omega (arith, c .kind .0)
+-- of another kind nothing is true
+pub no-kind : (file : List ℕ) (g : Diagram) → Claimed file g Kind.Unknown → ⊥
+unfolding Claimed
+no-kind file g c = c
 
 -- ---- invariance
 -- from the starting state v = 1 transition 0 leads to v = 2
@@ -47,35 +48,30 @@ abbrev left : Case
 left = invariance (is 1) (is 1 ∷ [])
 
 pub invariance-q : Claim (file left) → ⊥
-unfolding computing
+unfolding claiming
 invariance-q = refuted left refl (λ c.
-    let run = step-run (file left) (outline left) refl (v 1) (state (lit≤ tt)) 0 tt (lit< tt) in
-    c .invariance refl .0 (finite (v 1) (v 2 ∷ [])) run tt 1 (lit< tt))
+    let run = step-run (file left) (diagram left) (v 1) (state (lit≤ tt)) 0 tt (lit< tt) in
+    c .0 (finite (v 1) (v 2 ∷ [])) run tt 1 (lit< tt))
 
 -- at v = 0 the guard of transition 1 is true, and v - 1 is out of range
 abbrev low : Case
 low = invariance (true ∷ []) (is 0 ∷ [])
 
 pub invariance-range : Claim (file low) → ⊥
-unfolding computing
+unfolding claiming
 invariance-range = refuted low refl (λ c.
-    let run = state-run (file low) (outline low) (v 0) (state (lit≤ tt)) in
-    c .invariance refl .1 (finite (v 0) []) run 0 (lit< tt) 0 (lit≤ tt) (lit< tt) tt 1 (lit< tt) tt)
+    let run = state-run (file low) (diagram low) (v 0) (state (lit≤ tt)) in
+    c .1 (finite (v 0) []) run 0 (lit< tt) 0 (lit≤ tt) (lit< tt) tt 1 (lit< tt) tt)
 
 -- q is true, node 0 nowhere
 abbrev trivial : Case
 trivial = invariance (true ∷ []) ((plain 0x21 ∷ []) ∷ [])
 
 pub invariance-node : Claim (file trivial)
-unfolding computing
-invariance-node = claims trivial refl (record {
-  kind = (lit≤ tt, lit≤ tt);
-  invariance = λ e. (λ r run begins n h. tt, λ r run n h i from l y. absurd (nowhere i l (at r n) y));
-  wait-for = λ e. absurd (omega arith);
-  chain = λ e. absurd (omega arith);
-})
+unfolding claiming
+invariance-node = claims trivial refl (λ r run begins n h. tt, λ r run n h i from l y. absurd (nowhere i l (at r n) y))
   where
-    nowhere : (i : ℕ) → i < 1 → (s : List ℤ) → T (nodeHolds (file trivial) (outline trivial) i s) → ⊥
+    nowhere : (i : ℕ) → i < 1 → (s : List ℤ) → T (nodeHolds (file trivial) (diagram trivial) i s) → ⊥
     nowhere zero l s y = y
     nowhere (suc i) l s y = omega arith
 
@@ -85,22 +81,22 @@ abbrev passed : Case
 passed = wait-for (is 0) (is 2 ∷ is 0 ∷ []) (is 2 ∷ is 1 ∷ [])
 
 pub wait-for-q : Claim (file passed) → ⊥
-unfolding computing
+unfolding claiming
 wait-for-q = refuted passed refl (λ c.
-    let run = step-run (file passed) (outline passed) refl (v 0) (state (lit≤ tt)) 0 tt (lit< tt) in
-    let x = c .wait-for refl .0 .numbered passing run 0 (lit< tt) tt in
+    let run = step-run (file passed) (diagram passed) (v 0) (state (lit≤ tt)) 0 tt (lit< tt) in
+    let x = c .0 .numbered passing run 0 (lit< tt) tt in
     let one : x .number 1 ≡ 1 = omega (arith, x .from-one 1 waits, x .to-m 1 waits) in
-    subst (λ (i : ℕ). T (qHolds (file passed) (outline passed) i (v 1))) one (x .hold 1 waits))
+    subst (λ (i : ℕ). T (qHolds (file passed) (diagram passed) i (v 1))) one (x .hold 1 waits))
   where
     passing : Run (List ℤ)
     passing = finite (v 0) (v 1 ∷ [])
 
-    unmet : (j : ℕ) → 0 ≤ j → j ≤ 1 → T (not (qHolds (file passed) (outline passed) 0 (at passing j)))
+    unmet : (j : ℕ) → 0 ≤ j → j ≤ 1 → T (not (qHolds (file passed) (diagram passed) 0 (at passing j)))
     unmet zero l h = tt
     unmet (suc zero) l h = tt
     unmet (suc (suc j)) l h = absurd (omega arith)
 
-    waits : Waiting (qHolds (file passed) (outline passed) 0) passing 0 1
+    waits : Waiting (qHolds (file passed) (diagram passed) 0) passing 0 1
     waits = record { from = lit≤ tt; position = lit< tt; unmet = unmet }
 
 -- node 1 is v = 0; q_1 is true
@@ -108,38 +104,33 @@ abbrev lower : Case
 lower = wait-for (is 2) (is 2 ∷ (true ∷ []) ∷ []) (is 2 ∷ is 0 ∷ [])
 
 pub wait-for-range : Claim (file lower) → ⊥
-unfolding computing
+unfolding claiming
 wait-for-range = refuted lower refl (λ c.
-    let run = state-run (file lower) (outline lower) (v 0) (state (lit≤ tt)) in
-    c .wait-for refl .1 (finite (v 0) []) run 0 (lit< tt) 1 (lit≤ tt) (lit< tt) tt 1 (lit< tt) tt)
+    let run = state-run (file lower) (diagram lower) (v 0) (state (lit≤ tt)) in
+    c .1 (finite (v 0) []) run 0 (lit< tt) 1 (lit≤ tt) (lit< tt) tt 1 (lit< tt) tt)
 
 -- q_1 is true, node 1 nowhere; where p holds q_0 does not, nor need it come
 abbrev numbered : Case
 numbered = wait-for (is 0) (is 2 ∷ (true ∷ []) ∷ []) (is 2 ∷ (plain 0x21 ∷ []) ∷ [])
 
 pub wait-for-numbers : Claim (file numbered)
-unfolding computing
-wait-for-numbers = claims numbered refl (record {
-  kind = (lit≤ tt, lit≤ tt);
-  invariance = λ e. absurd (omega arith);
-  wait-for = λ e. (
-    record {
-      numbered = λ r run n h y.
-          record {
-            number = λ i. 1;
-            from-one = λ i w. lit≤ tt;
-            to-m = λ i w. lit≤ tt;
-            never-rise = λ i j w w′ l. lit≤ tt;
-            hold = λ i w. tt;
-          };
-      at-once = λ e. absurd (omega arith);
-    },
-    λ r run n h i one l y. absurd (nowhere i one l (at r n) y),
-  );
-  chain = λ e. absurd (omega arith);
-})
+unfolding claiming
+wait-for-numbers = claims numbered refl (
+  record {
+    numbered = λ r run n h y.
+        record {
+          number = λ i. 1;
+          from-one = λ i w. lit≤ tt;
+          to-m = λ i w. lit≤ tt;
+          never-rise = λ i j w w′ l. lit≤ tt;
+          hold = λ i w. tt;
+        };
+    at-once = λ e. absurd (omega arith);
+  },
+  λ r run n h i one l y. absurd (nowhere i one l (at r n) y),
+)
   where
-    nowhere : (i : ℕ) → 1 ≤ i → i < 2 → (s : List ℤ) → T (nodeHolds (file numbered) (outline numbered) i s) → ⊥
+    nowhere : (i : ℕ) → 1 ≤ i → i < 2 → (s : List ℤ) → T (nodeHolds (file numbered) (diagram numbered) i s) → ⊥
     nowhere zero one l s y = omega arith
     nowhere (suc zero) one l s y = y
     nowhere (suc (suc i)) one l s y = omega arith
@@ -149,30 +140,25 @@ abbrev reached : Case
 reached = wait-for (is 2) (is 2 ∷ []) (is 2 ∷ [])
 
 pub wait-for-goal : Claim (file reached)
-unfolding computing
-wait-for-goal = claims reached refl (record {
-  kind = (lit≤ tt, lit≤ tt);
-  invariance = λ e. absurd (omega arith);
-  wait-for = λ e. (
-    record {
-      numbered = λ r run n h y.
-          record {
-            number = λ i. 1;
-            from-one = λ i w. lit≤ tt;
-            to-m = λ i w. absurd (met r n i y w);
-            never-rise = λ i j w w′ l. lit≤ tt;
-            hold = λ i w. absurd (met r n i y w);
-          };
-      at-once = λ e r run n h y. y;
-    },
-    λ r run n h i one l. absurd (omega arith),
-  );
-  chain = λ e. absurd (omega arith);
-})
+unfolding claiming
+wait-for-goal = claims reached refl (
+  record {
+    numbered = λ r run n h y.
+        record {
+          number = λ i. 1;
+          from-one = λ i w. lit≤ tt;
+          to-m = λ i w. absurd (met r n i y w);
+          never-rise = λ i j w w′ l. lit≤ tt;
+          hold = λ i w. absurd (met r n i y w);
+        };
+    at-once = λ e r run n h y. y;
+  },
+  λ r run n h i one l. absurd (omega arith),
+)
   where
-    met : (r : Run (List ℤ)) (n i : ℕ) → T (pHolds (file reached) (outline reached) (at r n))
-        → Waiting (qHolds (file reached) (outline reached) 0) r n i → ⊥
-    met r n i y w = T-not (qHolds (file reached) (outline reached) 0 (at r n)) (w .unmet n (le-refl n) (w .from)) y
+    met : (r : Run (List ℤ)) (n i : ℕ) → T (pHolds (file reached) (diagram reached) (at r n))
+        → Waiting (qHolds (file reached) (diagram reached) 0) r n i → ⊥
+    met r n i y w = T-not (qHolds (file reached) (diagram reached) 0 (at r n)) (w .unmet n (le-refl n) (w .from)) y
 
 -- ---- chain
 -- v = 0 may idle for ever: transition 0 is not just, transition 1 disabled
@@ -180,12 +166,12 @@ abbrev idling : Case
 idling = chain (is 0) (is 2) ((true ∷ []) ∷ []) []
 
 pub chain-q : Claim (file idling) → ⊥
-unfolding computing
+unfolding claiming
 chain-q = refuted idling refl (λ c.
-    let run = idle-run (file idling) (outline idling) (v 0) (state (lit≤ tt)) in
-    c .chain refl .0 .eventual (λ n. v 0) run just 0 tt .1)
+    let run = idle-run (file idling) (diagram idling) (v 0) (state (lit≤ tt)) in
+    c .0 .eventual (λ n. v 0) run just 0 tt .1)
   where
-    just : Just (systemOf (file idling) (outline idling)) (λ n. v 0)
+    just : Just (systemOf (file idling) (diagram idling)) (λ n. v 0)
     just zero h y n = absurd y
     just (suc zero) h y n = (0, inl tt)
     just (suc (suc t)) h y n = absurd (omega arith)
@@ -195,18 +181,18 @@ abbrev outside : Case
 outside = chain (is 2) (is 2) (is 0 ∷ []) []
 
 pub chain-node : Claim (file outside) → ⊥
-unfolding computing
+unfolding claiming
 chain-node = refuted outside refl (λ c.
-    let run = idle-run (file outside) (outline outside) (v 2) (state (lit≤ tt)) in
-    let x = c .chain refl .0 .bounded 1 (lit≤ tt) (λ n. v 2) run just 0 tt in
+    let run = idle-run (file outside) (diagram outside) (v 2) (state (lit≤ tt)) in
+    let x = c .0 .bounded 1 (lit≤ tt) (λ n. v 2) run just 0 tt in
     none (x .0) (x .1 .below) (x .1 .holds))
   where
-    just : KJust (systemOf (file outside) (outline outside)) 1 (λ n. v 2)
+    just : KJust (systemOf (file outside) (diagram outside)) 1 (λ n. v 2)
     just zero h y n = absurd y
     just (suc zero) h y n = (0, lit< tt, inl tt)
     just (suc (suc t)) h y n = absurd (omega arith)
 
-    none : (r : ℕ) → r < 1 → T (nodeHolds (file outside) (outline outside) r (v 2)) → ⊥
+    none : (r : ℕ) → r < 1 → T (nodeHolds (file outside) (diagram outside) r (v 2)) → ⊥
     none zero l y = y
     none (suc r) l y = omega arith
 
@@ -215,30 +201,25 @@ abbrev lowest : Case
 lowest = chain (is 2) (is 2) (is 2 ∷ is 0 ∷ []) (double 1 1 0 ∷ [])
 
 pub chain-range : Claim (file lowest) → ⊥
-unfolding computing
+unfolding claiming
 chain-range = refuted lowest refl (λ c.
-    let run = state-run (file lowest) (outline lowest) (v 0) (state (lit≤ tt)) in
-    c .chain refl .1 (finite (v 0) []) run 0 (lit< tt) 1 (lit≤ tt) (lit< tt) tt 1 (lit< tt) tt)
+    let run = state-run (file lowest) (diagram lowest) (v 0) (state (lit≤ tt)) in
+    c .1 (finite (v 0) []) run 0 (lit< tt) 1 (lit≤ tt) (lit< tt) tt 1 (lit< tt) tt)
 
 -- p, q and the goal are v = 2
 abbrev there : Case
 there = chain (is 2) (is 2) (is 2 ∷ []) []
 
 pub chain-goal : Claim (file there)
-unfolding computing
-chain-goal = claims there refl (record {
-  kind = (lit≤ tt, lit≤ tt);
-  invariance = λ e. absurd (omega arith);
-  wait-for = λ e. absurd (omega arith);
-  chain = λ e. (
-    record {
-      bounded = λ k one σ run just n y. (
-        0,
-        record { below = lit< tt; holds = y; lowest = λ i l. absurd (omega arith) },
-        (0, zero-le, rw (add-zero n) y),
-      );
-      eventual = λ σ run just n y. (0, rw (add-zero n) y);
-    },
-    λ r run n h i one l. absurd (omega arith),
-  );
-})
+unfolding claiming
+chain-goal = claims there refl (
+  record {
+    bounded = λ k one σ run just n y. (
+      0,
+      record { below = lit< tt; holds = y; lowest = λ i l. absurd (omega arith) },
+      (0, zero-le, rw (add-zero n) y),
+    );
+    eventual = λ σ run just n y. (0, rw (add-zero n) y);
+  },
+  λ r run n h i one l. absurd (omega arith),
+)

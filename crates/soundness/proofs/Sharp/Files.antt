@@ -1,17 +1,18 @@
 -- One small system, and the files that claim something of it.
---     Case, file, outline              a claim and its diagram, behind the system's records
+--     Case, file, outline, diagram     a claim and its diagram, behind the system's records
 --     invariance, wait-for, chain      the three kinds
---     claims, refuted                  a file has one outline: what it claims is what is claimed with that, true or false
+--     claims, refuted                  a file has one diagram: what it claims is what is claimed with that, true or false
 -- Assumes nothing.
 use mathlib.Core.Path.{_≡_, subst}
 use mathlib.Core.List.{List, [], _∷_, _++_, map, flatten}
 use Prim.Native.Nat.{ℕ, _+_}
 use lib.ListN.{length}
-use Rattle.parsing.specs.declared.Outline.{Outline}
-use Rattle.reading.specs.declared.Reading.{Reading}
-use Rattle.reading.specs.Read.{readOf}
-use Rattle.reading.proofs.Files
-use Rattle.reading.proofs.Files.{range, start, transition, assignment, property, node, constant, variable, plain, true}
+use Rattle.diagrams.specs.declared.Diagram.{Diagram}
+use Rattle.diagrams.specs.declared.Found.{Found}
+use Rattle.diagrams.specs.Diagram.{foundOf, diagramOf, Loaded}
+use Rattle.diagrams.proofs.Laws.Diagram.{diagram-loaded, readable-loaded, loaded-readable, loaded-once}
+use Rattle.diagrams.proofs.Files
+use Rattle.diagrams.proofs.Files.{Outline, range, start, transition, assignment, property, node, constant, variable, plain, true}
 use Rattle.soundness.specs.System.{Claimed, Claim}
 
 -- ---- the system
@@ -63,9 +64,20 @@ outline c =
       edges = length (c .edges);
     }
 
--- ---- what is claimed
-pub claims : (c : Case) → readOf (file c) ≡ Reading.Readable (outline c) → Claimed (file c) (outline c) → Claim (file c)
-claims c r x = record { outline = outline c; readable = r; claimed = x }
+abbrev pub diagram : Case → Diagram
+diagram c = diagramOf (file c) (outline c)
 
-pub refuted : (c : Case) → readOf (file c) ≡ Reading.Readable (outline c) → (Claimed (file c) (outline c) → ⊥) → Claim (file c) → ⊥
-refuted c r untrue x = let e : x .outline ≡ outline c = cc (r, x .readable) in untrue (subst (Claimed (file c)) e (x .claimed))
+-- ---- what is claimed
+abbrev pub Reads : Case → Type 0
+Reads c = foundOf (file c) ≡ Found.Diagram (outline c)
+
+loaded : (c : Case) → Reads c → Loaded (file c) (diagram c)
+loaded c r = diagram-loaded (file c) (outline c) r
+
+pub claims : (c : Case) → Reads c → Claimed (file c) (diagram c) (diagram c .claim) → Claim (file c)
+claims c r x = record { diagram = diagram c; readable = loaded-readable (file c) (diagram c) (loaded c r); claimed = x }
+
+pub refuted : (c : Case) → Reads c → (Claimed (file c) (diagram c) (diagram c .claim) → ⊥) → Claim (file c) → ⊥
+refuted c r untrue x =
+    let e = loaded-once (file c) (x .diagram) (diagram c) (readable-loaded (file c) (x .diagram) (x .readable)) (loaded c r) in
+    untrue (subst (λ (g : Diagram). Claimed (file c) g (g .claim)) e (x .claimed))

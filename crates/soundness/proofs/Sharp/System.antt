@@ -15,12 +15,12 @@ use lib.Dec.{lit≤}
 use lib.IntN.{ℤ}
 use Rattle.runs.specs.Run.{System}
 use Rattle.soundness.specs.System.{systemOf}
-use Rattle.testing.proofs.Computing.{computing}
-use Rattle.testing.proofs.Values.{v, state, state-most}
-use Rattle.soundness.proofs.Sharp.Files.{is, invariance, file, outline}
+use Rattle.diagrams.proofs.Computing.{computing}
+use Rattle.diagrams.proofs.Values.{v, state, state-most}
+use Rattle.soundness.proofs.Sharp.Files.{is, invariance, file, diagram}
 
 abbrev M : System
-M = let c = invariance (is 2) (is 2 ∷ []) in systemOf (file c) (outline c)
+M = let c = invariance (is 2) (is 2 ∷ []) in systemOf (file c) (diagram c)
 
 abbrev states : List (List ℤ)
 states = v 0 ∷ v 1 ∷ v 2 ∷ []
@@ -37,6 +37,7 @@ unfolding computing
 start = refl
 
 pub transitions : M .transitions ≡ 2
+unfolding computing
 transitions = refl
 
 pub just : map (M .just) both ≡ false ∷ true ∷ []

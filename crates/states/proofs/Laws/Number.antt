@@ -20,7 +20,7 @@ use lib.IntN.{ℤ, pos, _+ℤ_}
 use lib.Signed.{leZ, ltZ, _≤ℤ_, ≤ℤ-refl}
 use Rattle.integers.specs.Radix.{at, offsetOf}
 use Rattle.integers.proofs.Laws.Parts.{ints, add-parts, by-test}
-use Rattle.integers.proofs.Laws.Radix.{at-above, at-below, offset-at, at-offset, offset-rises}
+use Rattle.integers.proofs.Laws.Radix.{at-above, at-below, offset-at, at-offset, offset-self, offset-next, offset-rises}
 use Rattle.states.specs.State.{Ranges, Within}
 use Rattle.states.specs.State.Ranges.{none as no-ranges, more as more-ranges}
 use Rattle.states.specs.State.Within.{none as no-values, more as more-values}
@@ -30,6 +30,18 @@ use Rattle.states.proofs.Laws.State.{within-ranges}
 pub size-pos : (low high : ℤ) → 0 < sizeOf low high
 unfolding sizeOf
 size-pos low high = omega arith
+
+pub size-self : (x : ℤ) → sizeOf x x ≡ 1
+unfolding sizeOf
+size-self x = rw (offset-self x) refl
+
+pub count-none : countOf [] [] ≡ 1
+unfolding countOf
+count-none = refl
+
+pub count-more : (low high : ℤ) (lows highs : List ℤ) → countOf (low ∷ lows) (high ∷ highs) ≡ sizeOf low high * countOf lows highs
+unfolding countOf
+count-more low high lows highs = refl
 
 pub count-pos : (lows highs : List ℤ) → 0 < countOf lows highs
 unfolding countOf
@@ -82,19 +94,6 @@ number-unique {lows} {highs} v w e = sym (state-of-number v) ∙ ap (stateOf low
 lows-within : {lows highs : List ℤ} → Ranges lows highs → Within lows highs lows
 lows-within no-ranges = no-values
 lows-within (more-ranges {low} p r) = more-values (≤ℤ-refl low) p (lows-within r)
-
-module _ (low : ℤ) where
-  offset-self : offsetOf low low ≡ 0
-  unfolding at
-  offset-self = let e : at low 0 ≡ low = omega (ints, add-parts low (pos 0)) in rw e at (offset-at low 0)
-
-  -- the next value is one further from the low end
-  offset-next : (v : ℤ) → low ≤ℤ v → offsetOf low (v +ℤ pos 1) ≡ offsetOf low v + 1
-  unfolding at
-  offset-next v p =
-      let o = offsetOf low v in
-      let e : at low (o + 1) ≡ v +ℤ pos 1 = omega (ints, add-parts low (pos (o + 1)), add-parts low (pos o), add-parts v (pos 1), at-offset low v p) in
-      rw e at (offset-at low (o + 1))
 
 pub first-number : {lows highs : List ℤ} → Ranges lows highs → numberOf lows highs lows ≡ 0
 unfolding numberOf

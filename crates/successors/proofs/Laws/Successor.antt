@@ -18,17 +18,19 @@ use Rattle.records.specs.Record.{kindIs}
 use Rattle.states.specs.State.{Within}
 use Rattle.states.specs.State.Within.{none as no-values, more as more-values}
 use Rattle.states.proofs.Laws.State.{ranges-at, within-ranges, within-set}
-use Rattle.expressions.specs.Expression.{partAt, holdsOf, behind}
+use Rattle.expressions.specs.Expression.{partAt, behind}
 use Rattle.expressions.proofs.Laws.Sound.{constant-in}
-use Rattle.evaluating.specs.Transition.{assignmentAt, assignmentsFrom, inRangeOf, allInRange, assigned, guardOf, assignmentList, enabledOf, successorOf}
+use Rattle.evaluating.specs.Transition.{assignmentsFrom, inRangeOf, allInRange, assigned, guardOf, assignmentList, enabledOf, successorOf}
 use Rattle.evaluating.specs.Transition.{AssignmentsFit, TransitionFits}
-use Rattle.evaluating.proofs.Laws.Transition.{in-range-ends}
+use Rattle.evaluating.proofs.Laws.Transition.{in-range-both, in-range-ends, range-none, range-more, assigned-none, assigned-more, assignment-is}
+use Rattle.evaluating.proofs.Laws.Transition.{list-end, list-none, list-more, list-from, fits-more}
+use Rattle.evaluating.proofs.Laws.Step.{guard-holds, enabled-and, enabled-both, successor-assigned}
 use Rattle.boxes.specs.declared.Box.{Box}
 use Rattle.boxes.specs.Box.{Inside}
 use Rattle.domains.specs.declared.seen.Seen.the-variants.{No}
 use Rattle.domains.specs.declared.extents.Extent.{Extent}
 use Rattle.domains.specs.Seen.{Says, bothOf, neverOf}
-use Rattle.domains.proofs.Laws.Seen.{both-says, both-asked, never-true}
+use Rattle.domains.proofs.Laws.Seen.{says-yes, both-says, both-asked, never-true}
 use Rattle.domains.proofs.Laws.Extent.{cut-low, cut-high, cut-in, at-most-says}
 use Rattle.enclosures.specs.Enclosure.{seenOf}
 use Rattle.enclosures.proofs.Laws.Enclosure.{number-inside, seen-said}
@@ -46,15 +48,20 @@ sets-within (more-values p q w) (suc i) l m = more-values p q (sets-within w i l
 module _ (ranges : Box) where
   -- ---- one assignment
   range-says : (i : ℕ) (e : Extent) (x : ℤ) → In x (e .span) → Says (rangeIn ranges i e) (inRangeOf (ranges .low) (ranges .high) i x)
-  unfolding rangeIn inRangeOf
+  unfolding rangeIn
   range-says i e x h =
-      both-says _ _ _ _ (at-most-says (pointOf (getD (ranges .low) i (pos 0))) e _ x (constant-in _) h)
-      (at-most-says e (pointOf (getD (ranges .high) i (pos 0))) x _ h (constant-in _))
+      rw (in-range-both (ranges .low) (ranges .high) i x)
+      (both-says _ _ _ _ (at-most-says (pointOf (getD (ranges .low) i (pos 0))) e _ x (constant-in _) h)
+      (at-most-says e (pointOf (getD (ranges .high) i (pos 0))) x _ h (constant-in _)))
 
   -- what m says of a state that the assignments so far make, where r says whether they lie in range
   record Stands (m : Reached) (r : Bool) (next : List ℤ) : Type 0 where
     says : Says (m .range) r
     holds : r ≡ true → Inside (m .to) next
+
+  none-stands : {m : Reached} {r : Bool} {next : List ℤ} → Stands m r next
+      → Stands m (r && allInRange (ranges .low) (ranges .high) []) (assigned [] next)
+  none-stands {m} {r} {next} s = rw (range-none (ranges .low) (ranges .high), and-true r, assigned-none next) s
 
   toward-stands : {m : Reached} {r : Bool} {next : List ℤ} (t : Target) (x : ℤ) → In x (t .extent .span) → Stands m r next
       → Stands (towardOf ranges m t) (r && inRangeOf (ranges .low) (ranges .high) (t .variable) x) (set next (t .variable) x)
@@ -74,20 +81,20 @@ module _ (ranges : Box) where
     abbrev InRange : ℕ → ℕ → Bool
     InRange n at = allInRange (ranges .low) (ranges .high) (assignmentsFrom file n at state)
 
-    reached-stands : (n at : ℕ) {m : Reached} {r : Bool} {next : List ℤ} → AssignmentsFit file n at state → Stands m r next
-        → Stands (reachedBy ranges (targetsFrom file n at b) m) (r && InRange n at) (assigned (assignmentsFrom file n at state) next)
-    unfolding reachedBy targetsFrom assignmentsFrom allInRange assigned AssignmentsFit targetAt assignmentAt
-    reached-stands zero at {m} {r} {next} h s = rw (and-true r) s
+    abbrev Reaches : ℕ → ℕ → Reached → Bool → List ℤ → Type 0
+    Reaches n at m r next = Stands (reachedBy ranges (targetsFrom file n at b) m) (r && InRange n at) (assigned (assignmentsFrom file n at state) next)
+
+    reached-stands : (n at : ℕ) {m : Reached} {r : Bool} {next : List ℤ} → AssignmentsFit file n at state → Stands m r next → Reaches n at m r next
+    unfolding reachedBy targetsFrom targetAt
+    reached-stands zero at {m} {r} {next} h s = rw (list-end file at state) (none-stands s)
     reached-stands (suc n) at {m} {r} {next} h s =
-        let ts = targetAt file at b ∷ targetsFrom file n (behind file (at + 1)) b in
-        let rs = assignmentAt file at state ∷ assignmentsFrom file n (behind file (at + 1)) state in
-        by-test (kindIs file 0x04 at)
-        (λ t. Stands (reachedBy ranges (cond t ts []) m) (r && allInRange (ranges .low) (ranges .high) (cond t rs [])) (assigned (cond t rs []) next))
+        by-test (kindIs file 0x04 at) (λ t. Reaches (suc n) at m r next)
         (λ e.
-        let f = h e in
+        let f = fits-more file at state refl e h in
         let x = number-inside inside 16 (partAt file (at + 1)) (f .1) in
-        rw (and-assoc r _ _) at (reached-stands n (behind file (at + 1)) (f .2) (toward-stands (targetAt file at b) _ x s)))
-        (λ e. rw (and-true r) s)
+        rw (e, list-more file at state {n = n} refl e, range-more, assigned-more, assignment-is)
+        (rw (and-assoc r _ _) at (reached-stands n (behind file (at + 1)) (f .2) (toward-stands (targetAt file at b) _ x s))))
+        (λ e. rw (e, list-none file at state (suc n) e) (none-stands s))
 
     -- ---- the transition
     module _ (at : ℕ) (h : TransitionFits file at state) where
@@ -101,12 +108,13 @@ module _ (ranges : Box) where
       enabled = enabledOf (ranges .low) (ranges .high) file at state
 
       guard-seen : Says (seenOf file (at + 1) b) (guardOf file at state)
-      unfolding guardOf holdsOf
-      guard-seen = seen-said inside file (at + 1) (h .guard)
+      guard-seen = rw (guard-holds file at state) (seen-said inside file (at + 1) (h .guard))
 
       reached-all : Stands (reachedFrom ranges file at b) all (successorOf file at state)
-      unfolding Says assignmentList successorOf reachedFrom
-      reached-all = reached-stands (length file / 8) (behind file (at + 1)) {r = true} (h .assignments) (record { says = refl; holds = λ e. inside })
+      unfolding reachedFrom
+      reached-all =
+          rw (successor-assigned file at state, list-from file at state)
+          (reached-stands (length file / 8) (behind file (at + 1)) {r = true} (h .assignments) (record { says = says-yes refl; holds = λ e. inside }))
 
       pub guard-said : Says (moved .guard) (guardOf file at state)
       unfolding moveOf
@@ -117,13 +125,12 @@ module _ (ranges : Box) where
       range-said g = rw (never-true _ _ guard-seen g) (reached-all .says)
 
       pub enabled-said : Says (bothOf (moved .guard) (moved .range)) enabled
-      unfolding enabledOf
-      enabled-said = both-asked (moved .guard) _ _ all guard-said range-said
+      enabled-said = rw (enabled-and (ranges .low) (ranges .high) file at state) (both-asked (moved .guard) _ _ all guard-said range-said)
 
       pub successor-inside : enabled ≡ true → Inside (moved .to) (successorOf file at state)
-      unfolding moveOf enabledOf
+      unfolding moveOf
       successor-inside e =
-          let both = and-eq-true-iff (guardOf file at state) all .0 e in
+          let both = enabled-both (ranges .low) (ranges .high) file at state e in
           rw (never-true _ _ guard-seen (both .0)) (reached-all .holds (both .1))
 
   -- ---- the box that it leads to lies in the ranges: P is the low or the high ends of a box, E the same end of an extent

@@ -2,7 +2,7 @@
 --     passes-said     the test passes there or not, as is said
 --     passes-yes      so where it is seen to pass, it does
 -- Assumes nothing.
-use mathlib.Core.Path.{_≡_, refl, _∙_}
+use mathlib.Core.Path.{_≡_, refl}
 use mathlib.Core.Bool.{Bool, true}
 use mathlib.Core.List.{List, [], _∷_}
 use Prim.Native.Nat.{ℕ, suc, _<_}
@@ -11,16 +11,15 @@ use native.Mathlib.Nat.{min-le-left}
 use lib.ListN.{length, getD, length-take}
 use lib.Seq.{getD-take}
 use lib.IntN.{ℤ}
-use Rattle.records.specs.Kind.{truth as truthSort}
-use Rattle.expressions.specs.Expression.{partAt, Fits}
+use Rattle.expressions.specs.Expression.{TruthFits}
 use Rattle.evaluating.specs.Transition.{enabledOf, successorOf, TransitionFits}
-use Rattle.evaluating.proofs.Laws.Step.{step-enabled, step-next, step-within}
+use Rattle.evaluating.proofs.Laws.Step.{enabled-and, successor-state}
 use Rattle.truths.proofs.Laws.Truth.{and-asked}
 use Rattle.boxes.specs.declared.Box.{Box}
 use Rattle.boxes.specs.Box.{Inside}
 use Rattle.domains.specs.declared.seen.Seen.the-variants.{Yes}
 use Rattle.domains.specs.Seen.{Says}
-use Rattle.domains.proofs.Laws.Seen.{either-says, implies-says, implied-says, yes-says}
+use Rattle.domains.proofs.Laws.Seen.{either-says, implies-says, implied-says, yes-says, says-no}
 use Rattle.enclosures.proofs.Laws.Enclosure.{seen-said}
 use Rattle.successors.proofs.Laws.Successor.{guard-said, range-said, enabled-said, successor-inside}
 use Rattle.testing.specs.declared.Conclusion.{Conclusion}
@@ -30,16 +29,16 @@ use Rattle.testing.specs.Testing.{someHolds, someIn, targetsListed, conc
 
 -- ---- one of several truths
 some-said : (file : List ℕ) {b : Box} {state : List ℤ} → Inside b state → (places : List ℕ)
-    → ((i : ℕ) → i < length places → Fits 16 truthSort (partAt file (getD places i 0)) state) → Says (someIn file places b) (someHolds file places state)
-unfolding Says someIn someHolds
-some-said file w [] f = refl
+    → ((i : ℕ) → i < length places → TruthFits file (getD places i 0) state) → Says (someIn file places b) (someHolds file places state)
+unfolding someIn someHolds
+some-said file w [] f = says-no refl
 some-said file w (at ∷ places) f =
     either-says _ _ _ _ (seen-said w file at (f 0 (omega arith))) (some-said file w places (λ i l. f (suc i) (omega arith)))
 
 -- ---- a test
 module _ (file : List ℕ) (ranges : Box) (test : Test) (fits : TestFits (ranges .low) (ranges .high) file test) where
   targets-fit : {state : List ℤ} → Inside ranges state
-      → (i : ℕ) → i < length (targetsListed test) → Fits 16 truthSort (partAt file (getD (targetsListed test) i 0)) state
+      → (i : ℕ) → i < length (targetsListed test) → TruthFits file (getD (targetsListed test) i 0) state
   targets-fit w i l =
       let m : i < test .count = omega (arith, length-take (test .count) (test .targets), min-le-left (test .count) (length (test .targets))) in
       rw (getD-take (test .count) (test .targets) i 0 m) (fits .targets i m _ w)
@@ -49,19 +48,17 @@ module _ (file : List ℕ) (ranges : Box) (test : Test) (fits : TestFits (ranges
     enabled = enabledOf (ranges .low) (ranges .high) file (test .transition) state
 
     successor : enabled ≡ true → Inside ranges (successorOf file (test .transition) state)
-    successor e =
-        let at = test .transition in
-        let s = step-enabled (ranges .low) (ranges .high) file at state refl ∙ e in
-        rw (step-next (ranges .low) (ranges .high) file at state refl s) at (step-within (ranges .low) (ranges .high) file at state refl s w)
+    successor e = successor-state (ranges .low) (ranges .high) file (test .transition) state e w
 
     -- the conclusions that speak of the transition
     module _ (h : TransitionFits file (test .transition) state) where
       range-concluded : Says (concludesIn ranges file test Conclusion.ValuesInRange b)
           (concludesOf (ranges .low) (ranges .high) file test Conclusion.ValuesInRange state)
-      unfolding concludesIn concludesOf enabledOf
+      unfolding concludesIn concludesOf
       range-concluded =
           implies-says _ _ _ _ (guard-said ranges file inside (test .transition) h)
-          (λ g. rw (and-asked _ g refl) (range-said ranges file inside (test .transition) h g))
+          (λ g. rw (enabled-and (ranges .low) (ranges .high) file (test .transition) state, and-asked _ g refl)
+          (range-said ranges file inside (test .transition) h g))
 
       reached-concluded : Says (concludesIn ranges file test Conclusion.Reached b)
           (concludesOf (ranges .low) (ranges .high) file test Conclusion.Reached state)

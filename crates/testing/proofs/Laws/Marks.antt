@@ -1,44 +1,22 @@
 -- A table of marks as it is filled, edge by edge: which nodes, or which pairs, the edges tried so far mark.
---     edge-here                                    an edge's record is there, and what it names is small
 --     marked-none, marked-kept                     no edge is tried: none is marked, or what is kept
 --     marked-hit, marked-miss, marked-end          an edge is carried, or not; all are tried
 -- Assumes nothing.
 use mathlib.Core.Path.{_≡_, refl, sym, ap, subst, _∙_}
 use mathlib.Core.Bool.{Bool, true, false, cond, _&&_, _||_, or-false}
 use mathlib.Core.List.{List}
-use Prim.Native.Nat.{ℕ, _+_, _*_, _≤_, _<_}
+use Prim.Native.Nat.{ℕ, _+_, _≤_, _<_}
 use native.Mathlib.Numerals.{add-one}
 use native.Mathlib.Omega.{arith}
 use borrow.Author.Tests.{eqb-true, eqb-false, eq-eqb, ne-eqb}
 use lib.ListN.{length, getD, set, replicate, length-set, length-replicate, getD-replicate}
 use lib.Seq.{getD-set-same, getD-set-other, ext-getD}
 use lib.Dec.{eqb}
-use Rattle.parsing.specs.declared.Outline.{Outline}
-use Rattle.records.specs.Record.{fieldC}
-use Rattle.records.specs.Table.{tabulate}
+use Rattle.truths.specs.Table.{tabulate}
 use Rattle.truths.specs.Search.{any}
-use Rattle.records.proofs.Laws.Table.{length-tabulate, getD-tabulate}
-use Rattle.reading.specs.declared.Reading.{Reading}
-use Rattle.reading.specs.Read.{readOf}
-use Rattle.reading.proofs.Laws.Readable as readable
-use Rattle.truths.proofs.Laws.Any.{any-last}
+use Rattle.truths.proofs.Laws.Table.{length-tabulate, getD-tabulate}
+use Rattle.truths.proofs.Laws.Any.{any-none, any-last}
 use Rattle.testing.proofs.Laws.Targets.{isMarked}
-
--- the record of edge e is there, in a small file; its target is one of at most 32 nodes
-pub record EdgeHere (file : List ℕ) (o : Outline) (e : ℕ) : Type 0 where
-  pub there : 8 * (o .edge + e) + 8 ≤ length file
-  pub small : length file ≤ 32768
-  pub target : fieldC file (o .edge + e) < 32
-
-pub edge-here : (file : List ℕ) (o : Outline) → readOf file ≡ Reading.Readable o → (e : ℕ) → e < o .edges → EdgeHere file o e
-edge-here file o r e l =
-    let x = readable.edge file o r e l in
-    let few = readable.nodes-within file o r .1 in
-    record {
-      there = omega (arith, readable.fits file o r .edges-here);
-      small = readable.small file o r;
-      target = omega (arith, x .to);
-    }
 
 pub eqb-swap : (a b : ℕ) → eqb a b ≡ eqb b a
 eqb-swap a b = by (eqb b a) refl
@@ -122,23 +100,25 @@ module _ (size : ℕ) (keep : Bool) (n edges edge : ℕ) (carried : ℕ → Bool
 
 -- no edge has passed: at most what is kept is marked
 module _ (size n edges edge : ℕ) (carried : ℕ → Bool) (to : ℕ → ℕ) where
+  none-yet : (j : ℕ) → any (λ x. carried x && eqb (to x) j) 0 edge ≡ false
+  none-yet j = any-none (λ x. carried x && eqb (to x) j) 0 edge (omega arith)
+
   pub marked-none : Marked size false n edges edge carried to (replicate size false) 0
-  unfolding any
   marked-none =
       record {
         passed = omega arith;
         long = length-replicate {A = Bool} size false;
-        each = λ j m. getD-replicate {A = Bool} size j false false m;
+        each = λ j m. getD-replicate {A = Bool} size j false false m ∙ sym (none-yet j);
       }
 
   pub marked-kept : (keep : Bool) → n < size → Marked size keep n edges edge carried to (set (replicate size false) n keep) 0
-  unfolding any
   marked-kept keep l =
       record {
         passed = omega arith;
         long = length-set (replicate size false) n keep ∙ marked-none .long;
         each = λ j m.
             set-mark (replicate size false) n j keep (omega (arith, marked-none .long))
-            ∙ ap (cond (eqb j n) keep) (marked-none .each j m)
-            ∙ mark-first (eqb j n) keep;
+            ∙ ap (cond (eqb j n) keep) (marked-none .each j m ∙ none-yet j)
+            ∙ mark-first (eqb j n) keep
+            ∙ ap (λ (b : Bool). (keep && eqb j n) || b) (sym (none-yet j));
       }

@@ -2,53 +2,41 @@
 --     chosen-last, chosen-most, chosen-each     the places chosen: one node more, how many they are, what is true of each
 --     some-chosen                               one of the places chosen holds where a marked node does
 --     marked-some                               a marked node holds where the node that may be kept does, or a target of an edge carried
---     node-at, transition-at                    the tables of places have where each node and each transition stands
---     node-stands, transition-stands, claimed-stands     it is the record that reading found
---     first-claimed, q-claimed                  the property has an expression, and a q for each node that is covered
---     node-small, claimed-small, q-small        places are small
 --     some-node, some-reached                   one of the places that a test has holds where one of the nodes that its condition names does
 -- Assumes nothing.
-use mathlib.Core.Path.{_≡_, refl, ap, ap₂, _∙_}
-use mathlib.Core.Logic.{_⊎_, inl, inr, ⊎-elim}
+use mathlib.Core.Path.{_≡_, refl, sym, ap, ap₂, _∙_}
+use mathlib.Core.Logic.{⊎-elim}
 use mathlib.Core.Bool.{Bool, true, false, cond, _&&_, _||_, and-eq-true-iff}
 use mathlib.Core.List.{List, [], _∷_, _++_}
-use Prim.Native.Nat.{ℕ, zero, suc, _+_, _/_, _≤_, _<_}
+use Prim.Native.Nat.{ℕ, zero, suc, _+_, _≤_, _<_}
 use native.Mathlib.Omega.{arith}
-use borrow.Author.Tests.{eq-eqb, ne-eqb, eqb-true}
+use borrow.Author.Tests.{eq-eqb, eqb-true}
 use lib.ListN.{length, getD, replicate, getD-replicate}
 use lib.Dec.{eqb}
 use lib.IntN.{ℤ}
-use Rattle.parsing.specs.declared.Outline.{Outline}
-use Rattle.records.specs.Record.{fieldB, fieldC}
-use Rattle.records.specs.Kind.{truth as truthSort}
-use Rattle.sections.specs.Section.{nodeOf, transitionOf, expressionsOf}
-use Rattle.records.specs.Place.{placeOf}
 use Rattle.truths.specs.Search.{any}
-use Rattle.records.proofs.Laws.Place.{places-nth}
-use Rattle.truths.proofs.Laws.Any.{any-some, any-at, any-below, any-same}
-use Rattle.sections.proofs.Laws.Section.{kind-here}
-use Rattle.reading.specs.declared.Reading.{Reading}
-use Rattle.reading.specs.Edge.{diagram, transitionAt}
-use Rattle.reading.specs.Read.{readOf}
-use Rattle.intervals.proofs.Laws.Expression.{expression-within}
-use Rattle.reading.proofs.Laws.Readable as readable
-use Rattle.expressions.specs.Expression.{holdsOf}
-use Rattle.conditions.specs.Edges.{carries}
-use Rattle.testing.specs.Diagram.{nodeAt, nodeHolds, claimedAt, qAt}
-use Rattle.testing.specs.Holding.{someNode, someTarget}
-use Rattle.testing.specs.Testing.{marksOf, chosenFrom, nodePlaces, transitionPlaces, someHolds}
-use Rattle.records.proofs.Laws.Table.{tabulate-at}
+use Rattle.truths.proofs.Laws.Any.{any-none, any-first, any-some, any-at, any-below, any-same}
 use Rattle.truths.proofs.Laws.Truth.{same-truth, or-first, or-second, or-cases}
+use Rattle.truths.proofs.Laws.Table.{tabulate-at}
+use Rattle.expressions.specs.Expression.{holdsOf}
+use Rattle.diagrams.specs.declared.Diagram.{Diagram}
+use Rattle.diagrams.specs.Diagram.{Loaded, edgeOf}
+use Rattle.diagrams.specs.Truth.{nodeHolds}
+use Rattle.diagrams.proofs.Laws.Diagram.{promised}
+use Rattle.diagrams.proofs.Laws.Truth.{node-at}
+use Rattle.conditions.specs.Edges.{carries}
+use Rattle.testing.specs.Holding.{someNode, someTarget}
+use Rattle.testing.specs.Testing.{marksOf, chosenFrom, someHolds}
 
 -- ---- the places chosen
 module _ (marks : List Bool) (nodes : List ℕ) where
   pub chosen-last : (n at : ℕ)
-      → chosenFrom marks nodes (suc n) at ≡ chosenFrom marks nodes n at ++ cond (getD marks (at + n) false) ((getD nodes (at + n) 0 + 1) ∷ []) []
+      → chosenFrom marks nodes (suc n) at ≡ chosenFrom marks nodes n at ++ cond (getD marks (at + n) false) (getD nodes (at + n) 0 ∷ []) []
   unfolding chosenFrom
   chosen-last zero at = let z : at + 0 ≡ at = omega arith in rw z
   chosen-last (suc n) at =
       let z : at + suc n ≡ at + 1 + n = omega arith in
-      rw z (go (getD marks at false) (getD nodes at 0 + 1) _ _ _ (chosen-last n (at + 1)))
+      rw z (go (getD marks at false) (getD nodes at 0) _ _ _ (chosen-last n (at + 1)))
     where
       go : (b : Bool) (x : ℕ) (l m t : List ℕ) → l ≡ m ++ t → cond b (x ∷ l) l ≡ cond b (x ∷ m) m ++ t
       go true x l m t e = ap (λ (k : List ℕ). x ∷ k) e
@@ -57,7 +45,7 @@ module _ (marks : List Bool) (nodes : List ℕ) where
   pub chosen-most : (n at : ℕ) → length (chosenFrom marks nodes n at) ≤ n
   unfolding chosenFrom
   chosen-most zero at = omega arith
-  chosen-most (suc n) at = go (getD marks at false) (getD nodes at 0 + 1) (chosenFrom marks nodes n (at + 1)) (chosen-most n (at + 1))
+  chosen-most (suc n) at = go (getD marks at false) (getD nodes at 0) (chosenFrom marks nodes n (at + 1)) (chosen-most n (at + 1))
     where
       go : (b : Bool) (x : ℕ) (l : List ℕ) → length l ≤ n → length (cond b (x ∷ l) l) ≤ suc n
       go true x l m = omega arith
@@ -65,12 +53,12 @@ module _ (marks : List Bool) (nodes : List ℕ) where
 
   -- what is true of each node's assertion is true of each place chosen
   module _ (P : ℕ → Type 0) where
-    pub chosen-each : (n at : ℕ) → ((j : ℕ) → at ≤ j → j < at + n → P (getD nodes j 0 + 1)) → (i : ℕ) → i < length (chosenFrom marks nodes n at)
+    pub chosen-each : (n at : ℕ) → ((j : ℕ) → at ≤ j → j < at + n → P (getD nodes j 0)) → (i : ℕ) → i < length (chosenFrom marks nodes n at)
         → P (getD (chosenFrom marks nodes n at) i 0)
     unfolding chosenFrom
     chosen-each zero at p i l = absurd (omega arith)
     chosen-each (suc n) at p i l =
-        go (getD marks at false) (getD nodes at 0 + 1) (chosenFrom marks nodes n (at + 1)) i l (p at (omega arith) (omega arith))
+        go (getD marks at false) (getD nodes at 0) (chosenFrom marks nodes n (at + 1)) i l (p at (omega arith) (omega arith))
         (chosen-each n (at + 1) (λ j a b. p j (omega arith) (omega arith)))
       where
         go : (b : Bool) (x : ℕ) (m : List ℕ) (i : ℕ) → i < length (cond b (x ∷ m) m) → P x → ((k : ℕ) → k < length m → P (getD m k 0))
@@ -87,11 +75,12 @@ module _ (file : List ℕ) (state : List ℤ) where
   some-one false x l rest e = e
 
   pub some-chosen : (marks : List Bool) (nodes : List ℕ) (n at : ℕ)
-      → someHolds file (chosenFrom marks nodes n at) state ≡ any (λ j. getD marks j false && holdsOf file (getD nodes j 0 + 1) state) n at
-  unfolding chosenFrom someHolds any
-  some-chosen marks nodes zero at = refl
+      → someHolds file (chosenFrom marks nodes n at) state ≡ any (λ j. getD marks j false && holdsOf file (getD nodes j 0) state) n at
+  unfolding chosenFrom someHolds
+  some-chosen marks nodes zero at = sym (any-none _ 0 at (omega arith))
   some-chosen marks nodes (suc n) at =
-      some-one (getD marks at false) (getD nodes at 0 + 1) (chosenFrom marks nodes n (at + 1)) _ (some-chosen marks nodes n (at + 1))
+      some-one (getD marks at false) (getD nodes at 0) (chosenFrom marks nodes n (at + 1)) _ (some-chosen marks nodes n (at + 1))
+      ∙ sym (any-first (λ j. getD marks j false && holdsOf file (getD nodes j 0) state) n at)
 
 -- ---- the nodes marked
 module _ (keep : Bool) (n edges edge : ℕ) (carried : ℕ → Bool) (to : ℕ → ℕ) where
@@ -157,114 +146,47 @@ module _ (keep : Bool) (n edges edge : ℕ) (carried : ℕ → Bool) (to : ℕ �
           (λ e. let s = any-some (λ j. isMarked j && holds j) nodes 0 e in forth (0 + s .which) (s .passes))
           (λ e. ⊎-elim stays goes (or-cases (keep && holds n) targetHolds e))
 
--- ---- the places of a readable file
-module _ (file : List ℕ) (o : Outline) (r : readOf file ≡ Reading.Readable o) where
-  pub node-at : (n : ℕ) → n < o .nodes → getD (nodePlaces file o) n 0 ≡ nodeAt file o n
-  unfolding nodePlaces nodeAt
-  node-at n l = let m = readable.nodes-within file o r .1 in places-nth (nodeOf file (o .vars)) (o .nodes) (o .node) n (omega arith) l
+-- ---- the places that a test has
+module _ (file : List ℕ) (g : Diagram) (r : Loaded file g) (state : List ℤ) where
+  few : g .nodes ≤ 32
+  few = promised file g r .nodes .1
 
-  pub transition-at : (t : ℕ) → t < o .transitions → getD (transitionPlaces file o) t 0 ≡ transitionAt file o t
-  unfolding transitionPlaces transitionAt
-  transition-at t l =
-      let m = readable.transitions-within file o r in
-      places-nth (transitionOf file (o .vars)) (o .transitions) (o .transition) t (omega arith) l
+  -- the assertion of node j, where the table has it
+  abbrev listedHolds : ℕ → Bool
+  listedHolds j = holdsOf file (getD (g .assertions) j 0) state
 
-  -- the records that reading found
-  pub node-stands : (n : ℕ) (l : n < o .nodes) → nodeAt file o n ≡ readable.node file o r n l .place
-  unfolding nodeAt
-  node-stands n l = ap placeOf (readable.node file o r n l .reached)
+  every : (j : ℕ) → j < g .nodes → (getD (replicate 32 true) j false && listedHolds j) ≡ nodeHolds file g j state
+  every j l =
+      let m = few in
+      ap (λ (b : Bool). b && listedHolds j) (getD-replicate {A = Bool} 32 j true false (omega arith)) ∙ sym (node-at file g state j)
 
-  pub transition-stands : (t : ℕ) (l : t < o .transitions) → transitionAt file o t ≡ readable.transition file o r t l .place
-  unfolding transitionAt
-  transition-stands t l = ap placeOf (readable.transition file o r t l .reached)
+  pub some-node : someHolds file (chosenFrom (replicate 32 true) (g .assertions) (g .nodes) 0) state ≡ someNode file g state
+  unfolding someNode
+  some-node =
+      some-chosen file state (replicate 32 true) (g .assertions) (g .nodes) 0
+      ∙ any-same (λ j. getD (replicate 32 true) j false && listedHolds j) (λ j. nodeHolds file g j state) (g .nodes) 0
+      (λ i l. every (0 + i) (omega arith))
 
-  pub claimed-stands : (i : ℕ) (l : i < expressionsOf file (o .property)) → claimedAt file o i ≡ readable.claimed file o r i l .place
-  unfolding claimedAt
-  claimed-stands i l = ap placeOf (readable.claimed file o r i l .reached)
+  module _ (n t : ℕ) (keep : Bool) where
+    abbrev marked : ℕ → Bool
+    marked = isMarked keep n (g .edges) 0 (λ e. carries n t (edgeOf file g e)) (λ e. edgeOf file g e .to)
 
-  -- the file has at most 4,096 records
-  small : (at : ℕ) → at < length file / 8 → at ≤ 4096
-  small at l = let m = readable.small file o r in omega arith
+    marked-at : (j : ℕ) → j < 32 → getD (marksOf file g n t keep) j false ≡ marked j
+    unfolding marksOf
+    marked-at j l = tabulate-at marked false 32 j l
 
-  pub node-small : (n : ℕ) → n < o .nodes → getD (nodePlaces file o) n 0 ≤ 4096
-  node-small n l =
-      let x = readable.node file o r n l in
-      rw (node-at n l, node-stands n l) (small (x .place) (kind-here file 0x06 (x .place) (x .named)))
+    marked-holds : (j : ℕ) → j < g .nodes → (getD (marksOf file g n t keep) j false && listedHolds j) ≡ (marked j && nodeHolds file g j state)
+    marked-holds j l = let m = few in ap₂ _&&_ (marked-at j (omega arith)) (sym (node-at file g state j))
 
-  pub claimed-small : (i : ℕ) → i < expressionsOf file (o .property) → claimedAt file o i ≤ 4096
-  claimed-small i l =
-      let x = readable.claimed file o r i l in
-      let w = expression-within file (o .vars) truthSort (x .place) (x .end) (x .expression) in
-      rw (claimed-stands i l) (small (x .place) (omega (arith, w .0, w .1)))
+    target-there : (e : ℕ) → e < g .edges → edgeOf file g (0 + e) .to < g .nodes
+    target-there e k = let z : 0 + e ≡ e = omega arith in rw z (promised file g r .edge e k .to)
 
-  -- the property has an expression, and a q for each node covered
-  pub first-claimed : 0 < expressionsOf file (o .property)
-  unfolding expressionsOf
-  first-claimed = by (eqb (diagram file o) 1) (eqb (diagram file o) 2)
-    where
-      by : (b c : Bool) → 0 < cond b 1 (cond c (fieldB file (o .property) + 1) 2)
-      by true c = omega arith
-      by false true = omega arith
-      by false false = omega arith
-
-  pub q-claimed : (n : ℕ) → n < o .nodes → (diagram file o ≡ 3 → n ≡ 0)
-      → cond (eqb (diagram file o) 1) 0 (n + 1) < expressionsOf file (o .property)
-  unfolding expressionsOf
-  q-claimed n l z = by (readable.property-kind file o r)
-    where
-      by : (diagram file o ≡ 2) ⊎ ((diagram file o ≡ 1) ⊎ (diagram file o ≡ 3))
-          → cond (eqb (diagram file o) 1) 0 (n + 1) < expressionsOf file (o .property)
-      by (inl w) =
-          let b : o .nodes ≡ fieldB file (o .property) = readable.phases file o r w in
-          rw (ne-eqb (diagram file o) 1 (λ e. omega arith), eq-eqb (diagram file o) 2 w) (omega arith)
-      by (inr (inl w)) = rw (eq-eqb (diagram file o) 1 w) (omega arith)
-      by (inr (inr w)) =
-          let q : n ≡ 0 = z w in
-          rw (ne-eqb (diagram file o) 1 (λ e. omega arith), ne-eqb (diagram file o) 2 (λ e. omega arith)) (omega arith)
-
-  pub q-small : (n : ℕ) → n < o .nodes → (diagram file o ≡ 3 → n ≡ 0) → qAt file o n ≤ 4096
-  unfolding qAt
-  q-small n l z = claimed-small (cond (eqb (diagram file o) 1) 0 (n + 1)) (q-claimed n l z)
-
-  -- ---- the places that a test has
-  module _ (state : List ℤ) where
-    -- the assertion of node j, where the table has it
-    abbrev listedHolds : ℕ → Bool
-    listedHolds j = holdsOf file (getD (nodePlaces file o) j 0 + 1) state
-
-    listed-is : (j : ℕ) → j < o .nodes → listedHolds j ≡ nodeHolds file o j state
-    unfolding nodeHolds
-    listed-is j l = ap (λ (k : ℕ). holdsOf file (k + 1) state) (node-at j l)
-
-    every : (j : ℕ) → j < o .nodes → (getD (replicate 32 true) j false && listedHolds j) ≡ nodeHolds file o j state
-    every j l =
-        let m = readable.nodes-within file o r .1 in
-        ap (λ (b : Bool). b && listedHolds j) (getD-replicate {A = Bool} 32 j true false (omega arith)) ∙ listed-is j l
-
-    pub some-node : someHolds file (chosenFrom (replicate 32 true) (nodePlaces file o) (o .nodes) 0) state ≡ someNode file o state
-    unfolding someNode
-    some-node =
-        some-chosen file state (replicate 32 true) (nodePlaces file o) (o .nodes) 0
-        ∙ any-same (λ j. getD (replicate 32 true) j false && listedHolds j) (λ j. nodeHolds file o j state) (o .nodes) 0
-        (λ i l. every (0 + i) (omega arith))
-
-    module _ (n t : ℕ) (keep : Bool) where
-      abbrev marked : ℕ → Bool
-      marked = isMarked keep n (o .edges) (o .edge) (carries file n t) (fieldC file)
-
-      marked-at : (j : ℕ) → j < 32 → getD (marksOf file o n t keep) j false ≡ marked j
-      unfolding marksOf
-      marked-at j l = tabulate-at marked false 32 j l
-
-      marked-holds : (j : ℕ) → j < o .nodes → (getD (marksOf file o n t keep) j false && listedHolds j) ≡ (marked j && nodeHolds file o j state)
-      marked-holds j l = let m = readable.nodes-within file o r .1 in ap₂ _&&_ (marked-at j (omega arith)) (listed-is j l)
-
-      pub some-reached : n < o .nodes → someHolds file (chosenFrom (marksOf file o n t keep) (nodePlaces file o) (o .nodes) 0) state
-          ≡ ((keep && nodeHolds file o n state) || someTarget file o n t state)
-      unfolding someTarget
-      some-reached l =
-          some-chosen file state (marksOf file o n t keep) (nodePlaces file o) (o .nodes) 0
-          ∙ any-same (λ j. getD (marksOf file o n t keep) j false && listedHolds j) (λ j. marked j && nodeHolds file o j state) (o .nodes) 0
-          (λ i m. marked-holds (0 + i) (omega arith))
-          ∙ marked-some keep n (o .edges) (o .edge) (carries file n t) (fieldC file) (λ j. nodeHolds file o j state) (o .nodes) l
-          (λ e k. readable.edge file o r e k .to)
+    pub some-reached : n < g .nodes → someHolds file (chosenFrom (marksOf file g n t keep) (g .assertions) (g .nodes) 0) state
+        ≡ ((keep && nodeHolds file g n state) || someTarget file g n t state)
+    unfolding someTarget
+    some-reached l =
+        some-chosen file state (marksOf file g n t keep) (g .assertions) (g .nodes) 0
+        ∙ any-same (λ j. getD (marksOf file g n t keep) j false && listedHolds j) (λ j. marked j && nodeHolds file g j state) (g .nodes) 0
+        (λ i m. marked-holds (0 + i) (omega arith))
+        ∙ marked-some keep n (g .edges) 0 (λ e. carries n t (edgeOf file g e)) (λ e. edgeOf file g e .to) (λ j. nodeHolds file g j state) (g .nodes) l
+        target-there

@@ -1,44 +1,41 @@
 -- Laws of prepared tests.
 --     prepared      the test of a condition says what the condition says
 --     test-fits     what it speaks of can be evaluated at every state
---     node-fits, claimed-fits, q-fits, transition-fits     and so can each node, claim, q and transition
 --     passes-vacuous, passes-concluded     a test passes where its premise does not hold, else by its conclusion
 --     steps-apart     a conclusion that speaks of a transition is another than one that doesn't
 -- Assumes nothing.
 use mathlib.Core.Path.{_≡_, refl, sym, ap, _∙_}
-use mathlib.Core.Bool.{Bool, true, false, not, cond, _&&_, _||_, or-false, false≢true}
+use mathlib.Core.Bool.{Bool, true, false, not, _&&_, _||_, or-false, false≢true}
 use mathlib.Core.List.{List, [], _∷_, _++_}
-use Prim.Native.Nat.{ℕ, zero, suc, _+_, _-_, _≤_, _<_}
+use Prim.Native.Nat.{ℕ, zero, suc, _-_, _≤_, _<_}
 use native.Mathlib.Omega.{arith}
 use lib.ListN.{length, getD, take, replicate, List·getD-append}
 use lib.Seq.{take-append-seam}
-use lib.Dec.{eqb}
 use lib.IntN.{ℤ}
-use Rattle.parsing.specs.declared.Outline.{Outline}
-use Rattle.sections.specs.Section.{expressionsOf}
-use Rattle.reading.specs.declared.Reading.{Reading}
-use Rattle.reading.specs.Edge.{diagram, transitionAt}
-use Rattle.reading.specs.Read.{readOf}
-use Rattle.reading.proofs.Laws.Readable as readable
-use Rattle.expressions.specs.Expression.{holdsOf}
-use Rattle.states.specs.State.{lowsOf, highsOf, Within}
-use Rattle.evaluating.specs.Transition.{guardOf, assignmentList, allInRange, enabledOf, successorOf, TransitionFits}
-use Rattle.evaluating.proofs.Laws.Readable as evaluable
-use Rattle.conditions.specs.Edges.{isDouble}
-use Rattle.testing.specs.Diagram.{nodeAt, nodeHolds, startHolds, claimedAt, pHolds, qAt, qHolds}
-use Rattle.conditions.specs.Condition.{Listed}
 use Rattle.truths.specs.Truth.{implies}
-use Rattle.truths.proofs.Laws.Truth.{implies-both, implies-own}
-use Rattle.testing.specs.Holding.{guardHolds, valuesFit, isEnabled, nextState, someNode, someTarget, conditionHolds}
-use Rattle.testing.specs.declared.Test.{Test}
-use Rattle.testing.specs.Testing.{marksOf, chosenFrom, targetsOf, chosenOf, nodePlaces, preparedOf, testOf, someHolds, concludesOf, passesOf}
-use Rattle.testing.specs.Testing.{TruthFits, TestFits}
+use Rattle.truths.proofs.Laws.Truth.{implies-true, implies-false, implies-both, implies-own}
+use Rattle.states.specs.State.{Within}
+use Rattle.expressions.specs.Expression.{holdsOf}
+use Rattle.evaluating.specs.Transition.{enabledOf, successorOf, TransitionFits}
+use Rattle.diagrams.specs.declared.Diagram.{Diagram}
+use Rattle.diagrams.specs.Diagram.{Loaded}
+use Rattle.diagrams.specs.Truth.{nodeHolds, claimedAt, qAt}
+use Rattle.diagrams.specs.System.{stepAt, guardHolds, valuesFit, isEnabled, nextState}
+use Rattle.diagrams.specs.Promise.{Promise}
+use Rattle.diagrams.proofs.Laws.Diagram.{promised}
+use Rattle.diagrams.proofs.Laws.Truth.{start-at, node-at, p-at, q-at}
+use Rattle.diagrams.proofs.Laws.System.{guard-at, enabled-at, next-at, enabled-and}
+use Rattle.conditions.specs.Edges.{isDouble}
+use Rattle.conditions.specs.Condition.{Listed}
 use Rattle.conditions.specs.declared.Condition.{Condition}
 use Rattle.conditions.specs.declared.Condition.the-variants.{Start, Entry, Cover, Range, Step, Enabling}
-use Rattle.testing.specs.declared.Conclusion.{Conclusion}
 use Rattle.conditions.proofs.Laws.Condition.{Parts, listed-parts}
-use Rattle.testing.proofs.Laws.Targets.{chosen-most, chosen-each, some-node, some-reached, node-at}
-use Rattle.testing.proofs.Laws.Targets.{node-stands, transition-stands, claimed-stands, first-claimed, q-claimed}
+use Rattle.testing.specs.Holding.{someNode, someTarget, stepLeads, conditionHolds}
+use Rattle.testing.specs.declared.Conclusion.{Conclusion}
+use Rattle.testing.specs.declared.Test.{Test}
+use Rattle.testing.specs.Testing.{marksOf, chosenFrom, targetsOf, chosenOf, preparedOf, testOf, someHolds, concludesOf, passesOf}
+use Rattle.testing.specs.Testing.{FitsEverywhere, TestFits}
+use Rattle.testing.proofs.Laws.Targets.{chosen-most, chosen-each, some-node, some-reached}
 
 -- ---- a test of a list of places
 module _ (lows highs : List ℤ) (file : List ℕ) (premise transition : ℕ) (list : List ℕ) where
@@ -58,8 +55,8 @@ module _ (lows highs : List ℤ) (file : List ℕ) (premise transition : ℕ) (l
       let e = enabledOf lows highs file transition state in
       ap (λ (l : List ℕ). implies (holdsOf file premise state) (implies e (someHolds file l (successorOf file transition state)))) taken
 
-  places-fit : (conclusion : Conclusion) → TruthFits lows highs file premise → length list ≤ 32
-      → ((i : ℕ) → i < length list → TruthFits lows highs file (getD list i 0))
+  places-fit : (conclusion : Conclusion) → FitsEverywhere lows highs file premise → length list ≤ 32
+      → ((i : ℕ) → i < length list → FitsEverywhere lows highs file (getD list i 0))
       → ((conclusion ≡ Conclusion.SomeTarget → ⊥) → (state : List ℤ) → Within lows highs state → TransitionFits file transition state)
       → TestFits lows highs file (preparedOf premise conclusion transition (targetsOf list))
   unfolding preparedOf targetsOf
@@ -71,122 +68,116 @@ module _ (lows highs : List ℤ) (file : List ℕ) (premise transition : ℕ) (l
         transition = f;
       }
 
-module _ (file : List ℕ) (o : Outline) (r : readOf file ≡ Reading.Readable o) where
+module _ (file : List ℕ) (g : Diagram) (r : Loaded file g) where
   abbrev lows : List ℤ
-  lows = lowsOf file (o .vars)
+  lows = g .low
 
   abbrev highs : List ℤ
-  highs = highsOf file (o .vars)
+  highs = g .high
+
+  abbrev assertionAt : ℕ → ℕ
+  assertionAt n = getD (g .assertions) n 0
+
+  keeps : Promise file g
+  keeps = promised file g r
 
   -- the targets of start and entry, and of a step
   abbrev all : List ℕ
-  all = chosenFrom (replicate 32 true) (nodePlaces file o) (o .nodes) 0
+  all = chosenFrom (replicate 32 true) (g .assertions) (g .nodes) 0
 
   abbrev reachable : ℕ → ℕ → List ℕ
-  reachable n t = chosenFrom (marksOf file o n t (not (isDouble file o n t))) (nodePlaces file o) (o .nodes) 0
+  reachable n t = chosenFrom (marksOf file g n t (not (isDouble file g n t))) (g .assertions) (g .nodes) 0
 
   -- ---- what the tests say
   module _ (state : List ℤ) where
     says-some : (premise : ℕ) → passesOf lows highs file (preparedOf premise Conclusion.SomeTarget 0 (targetsOf all)) state
-        ≡ implies (holdsOf file premise state) (someNode file o state)
-    says-some premise = some-passes lows highs file premise 0 all state ∙ ap (implies (holdsOf file premise state)) (some-node file o r state)
+        ≡ implies (holdsOf file premise state) (someNode file g state)
+    says-some premise = some-passes lows highs file premise 0 all state ∙ ap (implies (holdsOf file premise state)) (some-node file g r state)
 
-    says-step : (n t : ℕ) → n < o .nodes → passesOf lows highs file (testOf file o (Step n t)) state ≡ conditionHolds file o (Step n t) state
-    unfolding testOf chosenOf conditionHolds nodeHolds isEnabled nextState
+    says-step : (n t : ℕ) → n < g .nodes → passesOf lows highs file (testOf file g (Step n t)) state ≡ conditionHolds file g (Step n t) state
+    unfolding testOf chosenOf conditionHolds stepLeads
     says-step n t l =
-        let node = nodeHolds file o n state in
-        let enabled = enabledOf lows highs file (transitionAt file o t) state in
-        let next = successorOf file (transitionAt file o t) state in
-        let keep = not (isDouble file o n t) in
-        reached-passes lows highs file (nodeAt file o n + 1) (transitionAt file o t) (reachable n t) state
-        ∙ ap (λ (b : Bool). implies node (implies enabled b)) (some-reached file o r next n t keep l)
-        ∙ implies-both node enabled ((keep && nodeHolds file o n next) || someTarget file o n t next)
+        let node = nodeHolds file g n state in
+        let enabled = isEnabled file g t state in
+        let next = nextState file g t state in
+        let keep = not (isDouble file g n t) in
+        rw (← (node-at file g state n), ← (enabled-at file g t state), ← (next-at file g t state)) at
+        (reached-passes lows highs file (assertionAt n) (stepAt g t) (reachable n t) state)
+        ∙ ap (λ (b : Bool). implies node (implies enabled b)) (some-reached file g r next n t keep l)
+        ∙ implies-both node enabled ((keep && nodeHolds file g n next) || someTarget file g n t next)
 
-    says-range : (n t : ℕ) → passesOf lows highs file (testOf file o (Range n t)) state ≡ conditionHolds file o (Range n t) state
-    unfolding testOf conditionHolds passesOf preparedOf concludesOf nodeHolds guardHolds valuesFit enabledOf
+    says-range : (n t : ℕ) → passesOf lows highs file (testOf file g (Range n t)) state ≡ conditionHolds file g (Range n t) state
+    unfolding testOf conditionHolds passesOf preparedOf concludesOf
     says-range n t =
-        implies-own (holdsOf file (nodeAt file o n + 1) state) (guardOf file (transitionAt file o t) state)
-        (allInRange lows highs (assignmentList file (transitionAt file o t) state))
+        rw (← (node-at file g state n), ← (guard-at file g t state), ← (enabled-at file g t state), enabled-and file g t state)
+        (implies-own (nodeHolds file g n state) (guardHolds file g t state) (valuesFit file g t state))
 
-    says : (c : Condition) → Parts file o c → passesOf lows highs file (testOf file o c) state ≡ conditionHolds file o c state
-    unfolding testOf chosenOf conditionHolds passesOf preparedOf concludesOf startHolds pHolds nodeHolds qHolds isEnabled someHolds
-    says Start p = says-some (o .vars + 1)
-    says Entry p = says-some (claimedAt file o 0)
+    says : (c : Condition) → Parts file g c → passesOf lows highs file (testOf file g c) state ≡ conditionHolds file g c state
+    unfolding testOf chosenOf conditionHolds passesOf preparedOf concludesOf someHolds
+    says Start p = rw (start-at file g state) (says-some (g .start))
+    says Entry p = rw (p-at file g state) (says-some (claimedAt file g 0))
     says (Cover n) p =
-        some-passes lows highs file (nodeAt file o n + 1) 0 (qAt file o n ∷ []) state
-        ∙ ap (implies (holdsOf file (nodeAt file o n + 1) state)) (or-false (holdsOf file (qAt file o n) state))
+        rw (node-at file g state n, q-at file g state n)
+        (some-passes lows highs file (assertionAt n) 0 (qAt file g n ∷ []) state
+        ∙ ap (implies (holdsOf file (assertionAt n) state)) (or-false (holdsOf file (qAt file g n) state)))
     says (Range n t) p = says-range n t
     says (Step n t) p = says-step n t (p .0)
-    says (Enabling n t) p = refl
+    says (Enabling n t) p = rw (node-at file g state n, enabled-at file g t state) refl
 
   -- ---- what they speak of
-  pub node-fits : (n : ℕ) → n < o .nodes → TruthFits lows highs file (nodeAt file o n + 1)
-  node-fits n l state s = rw (node-stands file o r n l) (evaluable.assertion-fits file o r state s n l)
-
-  pub claimed-fits : (i : ℕ) → i < expressionsOf file (o .property) → TruthFits lows highs file (claimedAt file o i)
-  claimed-fits i l state s = rw (claimed-stands file o r i l) (evaluable.claimed-fits file o r state s i l)
-
-  pub transition-fits : (t : ℕ) → t < o .transitions → (state : List ℤ) → Within lows highs state → TransitionFits file (transitionAt file o t) state
-  transition-fits t l state s = rw (transition-stands file o r t l) (evaluable.transition-fits file o r state s t l)
-
-  chosen-fit : (marks : List Bool) (i : ℕ) → i < length (chosenFrom marks (nodePlaces file o) (o .nodes) 0)
-      → TruthFits lows highs file (getD (chosenFrom marks (nodePlaces file o) (o .nodes) 0) i 0)
+  chosen-fit : (marks : List Bool) (i : ℕ) → i < length (chosenFrom marks (g .assertions) (g .nodes) 0)
+      → FitsEverywhere lows highs file (getD (chosenFrom marks (g .assertions) (g .nodes) 0) i 0)
   chosen-fit marks i l =
-      chosen-each marks (nodePlaces file o) (λ at. TruthFits lows highs file at) (o .nodes) 0
-      (λ j a b. let m : j < o .nodes = omega arith in rw (node-at file o r j m) (node-fits j m)) i l
+      chosen-each marks (g .assertions) (λ at. FitsEverywhere lows highs file at) (g .nodes) 0
+      (λ j a b. let m : j < g .nodes = omega arith in keeps .assertion j m .fits) i l
 
-  chosen-few : (marks : List Bool) → length (chosenFrom marks (nodePlaces file o) (o .nodes) 0) ≤ 32
-  chosen-few marks = omega (arith, chosen-most marks (nodePlaces file o) (o .nodes) 0, readable.nodes-within file o r .1)
+  chosen-few : (marks : List Bool) → length (chosenFrom marks (g .assertions) (g .nodes) 0) ≤ 32
+  chosen-few marks = omega (arith, chosen-most marks (g .assertions) (g .nodes) 0, keeps .nodes .1)
 
-  pub q-fits : (n : ℕ) → n < o .nodes → (diagram file o ≡ 3 → n ≡ 0) → TruthFits lows highs file (qAt file o n)
-  unfolding qAt
-  q-fits n l z = claimed-fits (cond (eqb (diagram file o) 1) 0 (n + 1)) (q-claimed file o r n l z)
-
-  only : (at : ℕ) → TruthFits lows highs file at → (i : ℕ) → i < 1 → TruthFits lows highs file (getD (at ∷ []) i 0)
+  only : (at : ℕ) → FitsEverywhere lows highs file at → (i : ℕ) → i < 1 → FitsEverywhere lows highs file (getD (at ∷ []) i 0)
   only at f zero l = f
   only at f (suc i) l = absurd (omega arith)
 
-  fits : (c : Condition) → Parts file o c → TestFits lows highs file (testOf file o c)
+  fits : (c : Condition) → Parts file g c → TestFits lows highs file (testOf file g c)
   unfolding testOf chosenOf
   fits Start p =
-      places-fit lows highs file (o .vars + 1) 0 all Conclusion.SomeTarget (evaluable.start-fits file o r) (chosen-few (replicate 32 true))
+      places-fit lows highs file (g .start) 0 all Conclusion.SomeTarget (keeps .start .fits) (chosen-few (replicate 32 true))
       (chosen-fit (replicate 32 true)) (λ u. absurd (u refl))
   fits Entry p =
-      places-fit lows highs file (claimedAt file o 0) 0 all Conclusion.SomeTarget (claimed-fits 0 (first-claimed file o r))
-      (chosen-few (replicate 32 true)) (chosen-fit (replicate 32 true)) (λ u. absurd (u refl))
+      places-fit lows highs file (claimedAt file g 0) 0 all Conclusion.SomeTarget (keeps .p .fits) (chosen-few (replicate 32 true))
+      (chosen-fit (replicate 32 true)) (λ u. absurd (u refl))
   fits (Cover n) p =
-      places-fit lows highs file (nodeAt file o n + 1) 0 (qAt file o n ∷ []) Conclusion.SomeTarget (node-fits n (p .0)) (omega arith)
-      (only (qAt file o n) (q-fits n (p .0) (p .1))) (λ u. absurd (u refl))
+      places-fit lows highs file (assertionAt n) 0 (qAt file g n ∷ []) Conclusion.SomeTarget (keeps .assertion n p .fits) (omega arith)
+      (only (qAt file g n) (keeps .q n p .fits)) (λ u. absurd (u refl))
   fits (Range n t) p =
-      places-fit lows highs file (nodeAt file o n + 1) (transitionAt file o t) [] Conclusion.ValuesInRange (node-fits n (p .0)) (omega arith)
-      (λ i l. absurd (omega arith)) (λ u. transition-fits t (p .1))
+      places-fit lows highs file (assertionAt n) (stepAt g t) [] Conclusion.ValuesInRange (keeps .assertion n (p .0) .fits) (omega arith)
+      (λ i l. absurd (omega arith)) (λ u. keeps .step t (p .1))
   fits (Step n t) p =
-      let marks = marksOf file o n t (not (isDouble file o n t)) in
-      places-fit lows highs file (nodeAt file o n + 1) (transitionAt file o t) (reachable n t) Conclusion.Reached (node-fits n (p .0))
-      (chosen-few marks) (chosen-fit marks) (λ u. transition-fits t (p .1))
+      let marks = marksOf file g n t (not (isDouble file g n t)) in
+      places-fit lows highs file (assertionAt n) (stepAt g t) (reachable n t) Conclusion.Reached (keeps .assertion n (p .0) .fits)
+      (chosen-few marks) (chosen-fit marks) (λ u. keeps .step t (p .1))
   fits (Enabling n t) p =
-      places-fit lows highs file (nodeAt file o n + 1) (transitionAt file o t) [] Conclusion.Enabled (node-fits n (p .0)) (omega arith)
-      (λ i l. absurd (omega arith)) (λ u. transition-fits t (p .1))
+      places-fit lows highs file (assertionAt n) (stepAt g t) [] Conclusion.Enabled (keeps .assertion n (p .0) .fits) (omega arith)
+      (λ i l. absurd (omega arith)) (λ u. keeps .step t (p .1))
 
-module _ (file : List ℕ) (o : Outline) (r : readOf file ≡ Reading.Readable o) (c : Condition) (listed : Listed file o c) where
-  pub prepared : (state : List ℤ)
-      → passesOf (lowsOf file (o .vars)) (highsOf file (o .vars)) file (testOf file o c) state ≡ conditionHolds file o c state
-  prepared state = says file o r state c (listed-parts file o r c listed)
+module _ (file : List ℕ) (g : Diagram) (r : Loaded file g) (c : Condition) (listed : Listed file g c) where
+  pub prepared : (state : List ℤ) → passesOf (g .low) (g .high) file (testOf file g c) state ≡ conditionHolds file g c state
+  prepared state = says file g r state c (listed-parts file g r c listed)
 
-  pub test-fits : TestFits (lowsOf file (o .vars)) (highsOf file (o .vars)) file (testOf file o c)
-  test-fits = fits file o r c (listed-parts file o r c listed)
+  pub test-fits : TestFits (g .low) (g .high) file (testOf file g c)
+  test-fits = fits file g r c (listed-parts file g r c listed)
 
 -- ---- a test, by its premise
 module _ (lows highs : List ℤ) (file : List ℕ) (test : Test) (state : List ℤ) where
   module _ {p : Bool} (is : p ≡ holdsOf file (test .premise) state) where
     pub passes-vacuous : p ≡ false → passesOf lows highs file test state ≡ true
-    unfolding passesOf implies
-    passes-vacuous t = rw (← is, t)
+    unfolding passesOf
+    passes-vacuous t = rw (← is, t) (implies-false _)
 
     pub passes-concluded : p ≡ true → {q : Bool} → q ≡ concludesOf lows highs file test (test .conclusion) state
         → passesOf lows highs file test state ≡ q
-    unfolding passesOf implies
-    passes-concluded t e = rw (← is, t, e)
+    unfolding passesOf
+    passes-concluded t e = rw (← is, t, e) (implies-true _)
 
 -- ---- whether a conclusion speaks of a transition
 abbrev pub steps : Conclusion → Bool

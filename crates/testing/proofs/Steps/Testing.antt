@@ -10,32 +10,32 @@ use lib.ListN.{length, getD, set, take, drop, replicate, length-append, drop-of-
 use lib.Seq.{set-at, drop-cons, getD-take, length-take-le}
 use lib.Dec.{eqb}
 use lib.IntN.{ℤ}
-use Rattle.parsing.specs.declared.Outline.{Outline}
-use Rattle.reading.specs.declared.Reading.{Reading}
-use Rattle.reading.specs.Edge.{transitionAt}
-use Rattle.reading.specs.Read.{readOf}
+use Rattle.diagrams.specs.declared.Diagram.{Diagram}
+use Rattle.diagrams.specs.Diagram.{Loaded, edgeOf}
 use Rattle.evaluating.specs.declared.Stepped.{Stepped}
-use Rattle.records.specs.Kind.{truth as truthSort}
-use Rattle.expressions.specs.Expression.{partAt, holdsOf, Fits}
+use Rattle.expressions.specs.Expression.{holdsOf, TruthFits}
 use Rattle.evaluating.specs.Transition.{guardOf, enabledOf, stepOf, TransitionFits}
 use Rattle.conditions.specs.declared.Condition.{Condition}
 use Rattle.conditions.specs.declared.Condition.the-variants.{Start, Entry, Cover, Range, Step, Enabling}
 use Rattle.testing.specs.declared.Conclusion.{Conclusion}
 use Rattle.testing.specs.declared.Targets.{Targets}
 use Rattle.testing.specs.declared.Test.{Test}
-use Rattle.conditions.specs.Edges.{isDouble}
-use Rattle.testing.specs.Diagram.{nodeAt, claimedAt, qAt}
+use Rattle.conditions.specs.Edges.{carries, isDouble}
+use Rattle.diagrams.specs.Truth.{claimedAt, qAt}
+use Rattle.diagrams.specs.System.{stepAt}
+use Rattle.diagrams.specs.Promise.{Promise}
+use Rattle.diagrams.proofs.Laws.Diagram.{promised}
 use Rattle.conditions.specs.Condition.{Listed}
-use Rattle.truths.specs.Truth.{implies}
-use Rattle.truths.proofs.Laws.Truth.{implies-or}
-use Rattle.testing.specs.Testing.{marksOf, chosenFrom, targetsOf, chosenOf, nodePlaces, transitionPlaces, preparedOf, testOf}
+use Rattle.truths.proofs.Laws.Truth.{implies-true, implies-false, implies-or}
+use Rattle.testing.specs.Testing.{marksOf, chosenFrom, targetsOf, chosenOf, preparedOf, testOf}
 use Rattle.testing.specs.Testing.{someHolds, someIn, targetsListed, concludesOf, concludesIn, passesIn, TestFits}
 use Rattle.conditions.specs.Layout.{doubleOf}
 use Rattle.conditions.proofs.Laws.Condition.{Parts, listed-parts}
 use Rattle.conditions.proofs.Laws.Double.{double-is}
-use Rattle.testing.proofs.Laws.Targets.{chosen-last, chosen-most, node-at, transition-at, node-small}
-use Rattle.evaluating.proofs.Laws.Step.{step-enabled, step-next}
-use Rattle.testing.proofs.Laws.Marks.{eqb-swap}
+use Rattle.testing.proofs.Laws.Targets.{chosen-last, chosen-most}
+use Rattle.evaluating.proofs.Laws.Step.{step-guard, step-enabled, step-next}
+use Rattle.shapes.specs.declared.Edge.{Edge}
+use Rattle.testing.proofs.Laws.Marks.{eqb-swap, Marked, marked-hit, marked-miss}
 use Rattle.testing.proofs.Laws.Testing.{steps, steps-apart}
 use Rattle.boxes.specs.declared.Box.{Box}
 use Rattle.boxes.specs.Box.{Inside, Part}
@@ -51,7 +51,7 @@ use Rattle.successors.proofs.Laws.Successor.{to-low}
 
 -- ---- the places chosen
 module _ (marks : List Bool) (nodes : List ℕ) where
-  chosen-next : (i : ℕ) → chosenFrom marks nodes (i + 1) 0 ≡ chosenFrom marks nodes i 0 ++ cond (getD marks i false) ((getD nodes i 0 + 1) ∷ []) []
+  chosen-next : (i : ℕ) → chosenFrom marks nodes (i + 1) 0 ≡ chosenFrom marks nodes i 0 ++ cond (getD marks i false) (getD nodes i 0 ∷ []) []
   chosen-next i = let z : 0 + i ≡ i = omega arith in rw (add-one i) (rw z at (chosen-last marks nodes i 0))
 
   module _ (n : ℕ) where
@@ -78,10 +78,10 @@ module _ (marks : List Bool) (nodes : List ℕ) where
           rw (f, c)
 
       module _ (l : i < n) (m : n ≤ 32) where
-        pub choosing-more : getD marks i false ≡ true → Choosing (set places count (getD nodes i 0 + 1)) (count + 1) (i + 1)
+        pub choosing-more : getD marks i false ≡ true → Choosing (set places count (getD nodes i 0)) (count + 1) (i + 1)
         choosing-more t =
             let few = choosing-few in
-            let next : chosenFrom marks nodes (i + 1) 0 ≡ chosenFrom marks nodes i 0 ++ ((getD nodes i 0 + 1) ∷ []) =
+            let next : chosenFrom marks nodes (i + 1) 0 ≡ chosenFrom marks nodes i 0 ++ (getD nodes i 0 ∷ []) =
             rw t at (chosen-next i) in
             let z : 32 - count ≡ suc (32 - (count + 1)) = omega arith in
             record {
@@ -89,7 +89,7 @@ module _ (marks : List Bool) (nodes : List ℕ) where
               counted = rw (next, length-append) (omega (arith, k .counted));
               filled =
                   rw (next, k .filled, z, append-assoc)
-                  (set-at (chosenFrom marks nodes i 0) 0 (replicate (32 - (count + 1)) 0) (getD nodes i 0 + 1) count (sym (k .counted)));
+                  (set-at (chosenFrom marks nodes i 0) 0 (replicate (32 - (count + 1)) 0) (getD nodes i 0) count (sym (k .counted)));
             }
 
         pub choosing-skip : getD marks i false ≡ false → Choosing places count (i + 1)
@@ -97,6 +97,28 @@ module _ (marks : List Bool) (nodes : List ℕ) where
             let next : chosenFrom marks nodes (i + 1) 0 ≡ chosenFrom marks nodes i 0 =
             rw t at (chosen-next i) ∙ append-nil (chosenFrom marks nodes i 0) in
             record { passed = omega arith; counted = rw next (k .counted); filled = rw next (k .filled) }
+
+-- ---- the marks that the edges make, one after the other
+module _ (file : List ℕ) (g : Diagram) (r : Loaded file g) (node transition : ℕ) (keep : Bool) where
+  abbrev pub MarkedBy : List Bool → ℕ → Type 0
+  MarkedBy = Marked 32 keep node (g .edges) 0 (λ i. carries node transition (edgeOf file g i)) (λ i. edgeOf file g i .to)
+
+  module _ {marks : List Bool} {e : ℕ} (k : MarkedBy marks e) (l : e < g .edges) {x : Edge} (is : x ≡ edgeOf file g e) where
+    pub target-small : x .to < 32
+    target-small = rw is (omega (arith, promised file g r .edge e l .to, promised file g r .nodes .1))
+
+    module _ {c : Bool} (cs : c ≡ carries node transition x) where
+      carried : {b : Bool} → c ≡ b → carries node transition (edgeOf file g (0 + e)) ≡ b
+      carried t = let z : 0 + e ≡ e = omega arith in rw (z, ← is) (sym cs ∙ t)
+
+      pub mark-hit : c ≡ true → MarkedBy (set marks (x .to) true) (e + 1)
+      mark-hit t =
+          let z : 0 + e ≡ e = omega arith in
+          let to : x .to ≡ edgeOf file g (0 + e) .to = rw (z, is) refl in
+          marked-hit 32 keep node (g .edges) 0 _ _ k l to (rw (← to) target-small) (carried t)
+
+      pub mark-miss : c ≡ false → MarkedBy marks (e + 1)
+      mark-miss t = marked-miss 32 keep node (g .edges) 0 _ _ k l (carried t)
 
 -- ---- the truths tried: the first `count` of the places; place i is next
 module _ (file places : List ℕ) (count i : ℕ) (enough : count ≤ length places) where
@@ -149,11 +171,10 @@ module _ (lows highs : List ℤ) (file : List ℕ) (test : Test) (state : List �
 
     pub concludes-range : test .conclusion ≡ Conclusion.ValuesInRange
         → (not (s .guard) || s .enabled) ≡ concludesOf lows highs file test (test .conclusion) state
-    unfolding concludesOf stepOf
+    unfolding concludesOf
     concludes-range k =
-        rw k
-        (ap (λ (r : Stepped). not (r .guard) || r .enabled) is
-        ∙ implies-or (guardOf file (test .transition) state) (enabledOf lows highs file (test .transition) state))
+        rw (k, step-guard lows highs file (test .transition) state is, enabled)
+        (implies-or (guardOf file (test .transition) state) (enabledOf lows highs file (test .transition) state))
 
     pub concludes-enabled : test .conclusion ≡ Conclusion.Enabled → s .enabled ≡ concludesOf lows highs file test (test .conclusion) state
     unfolding concludesOf
@@ -161,14 +182,15 @@ module _ (lows highs : List ℤ) (file : List ℕ) (test : Test) (state : List �
 
     pub concludes-idle : test .conclusion ≡ Conclusion.Reached → s .enabled ≡ false
         → true ≡ concludesOf lows highs file test (test .conclusion) state
-    unfolding concludesOf implies
-    concludes-idle k e = rw (k, ← enabled, e)
+    unfolding concludesOf
+    concludes-idle k e = rw (k, ← enabled, e) (sym (implies-false _))
 
     pub concludes-reached : test .conclusion ≡ Conclusion.Reached → s .enabled ≡ true
         → someHolds file (targetsListed test) (s .next) ≡ concludesOf lows highs file test (test .conclusion) state
-    unfolding concludesOf implies
+    unfolding concludesOf
     concludes-reached k e =
-        rw (k, ← enabled, e) (ap (someHolds file (targetsListed test)) (step-next lows highs file (test .transition) state is e))
+        rw (k, ← enabled, e)
+        (ap (someHolds file (targetsListed test)) (step-next lows highs file (test .transition) state is e) ∙ sym (implies-true _))
 
 -- on a box
 module _ (ranges : Box) (file : List ℕ) (test : Test) (b : Box) where
@@ -207,68 +229,60 @@ module _ {ranges : Box} {file : List ℕ} {test : Test} (fits : TestFits (ranges
   low : Inside ranges (b .low)
   low = part-inside part (low-inside part)
 
-  pub premise-in : Fits 16 truthSort (partAt file (test .premise)) (b .low)
+  pub premise-in : TruthFits file (test .premise) (b .low)
   premise-in = fits .premise _ low
 
-  pub targets-in : (i : ℕ) → i < test .count → Fits 16 truthSort (partAt file (getD (test .targets) i 0)) (b .low)
+  pub targets-in : (i : ℕ) → i < test .count → TruthFits file (getD (test .targets) i 0) (b .low)
   targets-in i l = fits .targets i l _ low
 
   pub transition-in : {c : Conclusion} → test .conclusion ≡ c → steps c ≡ true → TransitionFits file (test .transition) (b .low)
   transition-in e t = fits .transition (steps-apart e t) _ low
 
   pub reached-in : {m : Moved} → m ≡ moveOf ranges file (test .transition) b
-      → (i : ℕ) → i < test .count → Fits 16 truthSort (partAt file (getD (test .targets) i 0)) (m .to .low)
+      → (i : ℕ) → i < test .count → TruthFits file (getD (test .targets) i 0) (m .to .low)
   reached-in is i l = rw is (fits .targets i l _ (to-low ranges file (test .transition) b low))
 
--- ---- the test of a condition, by the tables of places
-module _ (file : List ℕ) (o : Outline) where
-  pub parts-of : {c d : Condition} → readOf file ≡ Reading.Readable o → Listed file o c → c ≡ d → Parts file o d
-  parts-of {c} r listed e = subst (Parts file o) e (listed-parts file o r c listed)
+-- ---- the test of a condition
+module _ (file : List ℕ) (g : Diagram) (r : Loaded file g) where
+  pub parts-of : {c d : Condition} → Listed file g c → c ≡ d → Parts file g d
+  parts-of {c} listed e = subst (Parts file g) e (listed-parts file g r c listed)
 
-  module _ (r : readOf file ≡ Reading.Readable o) {nodes : List ℕ} (is : nodes ≡ nodePlaces file o) where
-    pub nodes-small : (n : ℕ) → n < o .nodes → getD nodes n 0 ≤ 4096
-    nodes-small n l = rw is (node-small file o r n l)
+  pub keeps : Promise file g
+  keeps = promised file g r
 
-    nodes-at : (n : ℕ) → n < o .nodes → getD nodes n 0 ≡ nodeAt file o n
-    nodes-at n l = rw is (node-at file o r n l)
+  module _ {c : Condition} where
+    pub test-start : c ≡ Start → {all : Targets} → all ≡ chosenOf (replicate 32 true) (g .assertions) (g .nodes)
+        → preparedOf (g .start) Conclusion.SomeTarget 0 all ≡ testOf file g c
+    unfolding testOf
+    test-start e a = rw (e, a)
 
-    transitions-at : {transitions : List ℕ} → transitions ≡ transitionPlaces file o → (t : ℕ) → t < o .transitions
-        → getD transitions t 0 ≡ transitionAt file o t
-    transitions-at are t m = rw are (transition-at file o r t m)
+    pub test-entry : c ≡ Entry → {all : Targets} → all ≡ chosenOf (replicate 32 true) (g .assertions) (g .nodes) → {p : ℕ} → p ≡ claimedAt file g 0
+        → preparedOf p Conclusion.SomeTarget 0 all ≡ testOf file g c
+    unfolding testOf
+    test-entry e a p = rw (e, a, p)
 
-    module _ {c : Condition} where
-      pub test-start : c ≡ Start → {all : Targets} → all ≡ chosenOf (replicate 32 true) nodes (o .nodes)
-          → preparedOf (o .vars + 1) Conclusion.SomeTarget 0 all ≡ testOf file o c
+    module _ {n : ℕ} where
+      pub test-cover : c ≡ Cover n → {q : Targets} {at : ℕ} → q ≡ targetsOf (at ∷ []) → at ≡ qAt file g n
+          → preparedOf (getD (g .assertions) n 0) Conclusion.SomeTarget 0 q ≡ testOf file g c
       unfolding testOf
-      test-start e a = rw (e, a, is)
+      test-cover e q a = rw (e, q, a)
 
-      pub test-entry : c ≡ Entry → {all : Targets} → all ≡ chosenOf (replicate 32 true) nodes (o .nodes) → {p : ℕ} → p ≡ claimedAt file o 0
-          → preparedOf p Conclusion.SomeTarget 0 all ≡ testOf file o c
-      unfolding testOf
-      test-entry e a p = rw (e, a, is, p)
-
-      module _ {n : ℕ} (l : n < o .nodes) where
-        pub test-cover : c ≡ Cover n → {q : Targets} {at : ℕ} → q ≡ targetsOf (at ∷ []) → at ≡ qAt file o n
-            → preparedOf (getD nodes n 0 + 1) Conclusion.SomeTarget 0 q ≡ testOf file o c
+      module _ {t : ℕ} where
+        pub test-range : c ≡ Range n t → {q : Targets} → q ≡ targetsOf []
+            → preparedOf (getD (g .assertions) n 0) Conclusion.ValuesInRange (stepAt g t) q ≡ testOf file g c
         unfolding testOf
-        test-cover e q a = rw (e, q, a, nodes-at n l)
+        test-range e q = rw (e, q)
 
-        module _ {transitions : List ℕ} (are : transitions ≡ transitionPlaces file o) {t : ℕ} (m : t < o .transitions) where
-          pub test-range : c ≡ Range n t → {q : Targets} → q ≡ targetsOf []
-              → preparedOf (getD nodes n 0 + 1) Conclusion.ValuesInRange (getD transitions t 0) q ≡ testOf file o c
-          unfolding testOf
-          test-range e q = rw (e, q, nodes-at n l, transitions-at are t m)
+        pub test-enabling : c ≡ Enabling n t → {q : Targets} → q ≡ targetsOf []
+            → preparedOf (getD (g .assertions) n 0) Conclusion.Enabled (stepAt g t) q ≡ testOf file g c
+        unfolding testOf
+        test-enabling e q = rw (e, q)
 
-          pub test-enabling : c ≡ Enabling n t → {q : Targets} → q ≡ targetsOf []
-              → preparedOf (getD nodes n 0 + 1) Conclusion.Enabled (getD transitions t 0) q ≡ testOf file o c
-          unfolding testOf
-          test-enabling e q = rw (e, q, nodes-at n l, transitions-at are t m)
-
-          pub test-step : c ≡ Step n t → {double : ℕ} → double ≡ doubleOf file o n
-              → {marks : List Bool} → marks ≡ marksOf file o n t (not (eqb double t)) → {q : Targets} → q ≡ chosenOf marks nodes (o .nodes)
-              → preparedOf (getD nodes n 0 + 1) Conclusion.Reached (getD transitions t 0) q ≡ testOf file o c
-          unfolding testOf
-          test-step e {double} d {marks} k q =
-              let same : eqb double t ≡ isDouble file o n t = eqb-swap double t ∙ ap (eqb t) d ∙ sym (double-is file o r n t m) in
-              let chosen : marks ≡ marksOf file o n t (not (isDouble file o n t)) = rw same at k in
-              rw (e, q, chosen, nodes-at n l, transitions-at are t m, is)
+        pub test-step : c ≡ Step n t → t < g .transitions → {double : ℕ} → double ≡ doubleOf file g n
+            → {marks : List Bool} → marks ≡ marksOf file g n t (not (eqb double t)) → {q : Targets} → q ≡ chosenOf marks (g .assertions) (g .nodes)
+            → preparedOf (getD (g .assertions) n 0) Conclusion.Reached (stepAt g t) q ≡ testOf file g c
+        unfolding testOf
+        test-step e l {double} d {marks} k q =
+            let same : eqb double t ≡ isDouble file g n t = eqb-swap double t ∙ ap (eqb t) d ∙ sym (double-is file g r n t l) in
+            let chosen : marks ≡ marksOf file g n t (not (isDouble file g n t)) = rw same at k in
+            rw (e, q, chosen)

@@ -26,9 +26,6 @@ mul-places c = search needs
 array-read-places : tie.Need-array-read-places Inv-loop μ-loop
 array-read-places c = search needs
 
-add-places : tie.Need-add-places Inv-loop μ-loop
-add-places c = omega (arith, c .before .before .before .pre .1 (c .before .before .loop .i) (c .before .loop-test .taken))
-
 cast-places : tie.Need-cast-places Inv-loop μ-loop
 cast-places c = omega (arith, c .before .before .before .pre .1 (c .before .before .loop .i) (c .before .loop-test .taken))
 
@@ -70,7 +67,6 @@ choose-spec =
     array-read-if1
     mul-places
     array-read-places
-    add-places
     cast-places
     mul-places-2
     array-write-places

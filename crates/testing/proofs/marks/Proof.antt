@@ -1,58 +1,40 @@
 -- `testing::marks` meets its contract: the marks are those that the edges passed make.
 -- Assumes nothing.
-use mathlib.Core.Path.{sym, _∙_}
 use mathlib.Core.Logic.{⊎-elim}
-use Prim.Native.Nat.{ℕ, _-_, _≤_, _<_}
+use Prim.Native.Nat.{_-_}
 use native.Mathlib.Omega.{arith}
-use Rattle.records.specs.Record.{fieldC}
-use Rattle.reading.proofs.Laws.Readable.{nodes-within}
+use borrow.Author.Needs.{needs}
+use Rattle.diagrams.specs.Diagram.{edgeOf}
 use Rattle.conditions.specs.Edges.{carries}
 use Rattle.testing.specs.Testing.{marksOf}
-use Rattle.testing.proofs.Laws.Marks.{EdgeHere, edge-here, Marked, marked-kept, marked-end, marked-hit, marked-miss}
+use Rattle.testing.proofs.Laws.Marks.{Marked, marked-kept, marked-end}
+use Rattle.testing.proofs.Steps.Testing.{keeps, target-small, mark-hit, mark-miss}
 use Rattle.testing.proofs.marks.Statement.{statement}
 use Rattle.testing.proofs.marks.Tie as tie
 
 abbrev Inv-loop : tie.InvT-loop
-Inv-loop file outline node transition keep marks₀ e₀ marks e =
-    Marked 32 keep node (outline .edges) (outline .edge) (carries file node transition) (fieldC file) marks e
+Inv-loop file diagram node transition keep marks₀ e₀ marks e =
+    Marked 32 keep node (diagram .edges) 0 (λ i. carries node transition (edgeOf file diagram i)) (λ i. edgeOf file diagram i .to) marks e
 
 abbrev μ-loop : tie.MeasureT-loop
-μ-loop file outline node transition keep marks₀ e₀ marks e = outline .edges - e
-
-module _ (s : tie.Start Inv-loop μ-loop) where
-  few : s .args .outline .nodes ≤ 32
-  few = nodes-within _ _ (s .pre .0) .1
-
-  here : (e : ℕ) → e < s .args .outline .edges → EdgeHere (s .args .file .now) (s .args .outline) e
-  here = edge-here _ _ (s .pre .0)
+μ-loop file diagram node transition keep marks₀ e₀ marks e = diagram .edges - e
 
 array-write-marks : tie.Need-array-write-marks Inv-loop μ-loop
-array-write-marks c = omega (arith, few (c .before))
+array-write-marks c = omega (arith, keeps _ _ (c .before .pre .0) .nodes .1)
 
 loop-holds : tie.Need-loop-holds Inv-loop μ-loop
-loop-holds c = marked-kept _ _ _ _ _ _ _ (omega (arith, few (c .before)))
+loop-holds c = marked-kept _ _ _ _ _ _ _ (omega (arith, keeps _ _ (c .before .pre .0) .nodes .1))
 
-add-at : tie.Need-add-at Inv-loop μ-loop
-add-at c = let h = here (c .before .before .before .before .before) _ (c .before .if1 .taken) in omega arith
+edge-of-requires : tie.Need-edge-of-requires Inv-loop μ-loop
+edge-of-requires c κs = (c .before .before .before .before .pre .0, c .if1 .taken)
 
 carries-requires : tie.Need-carries-requires Inv-loop μ-loop
-carries-requires c κs = here (c .before .before .before .before .before) _ (c .before .if1 .taken) .there
-
-mul-word-at : tie.Need-mul-word-at Inv-loop μ-loop
-mul-word-at c = let h = here (c .before .before .before .before .before .before .before) _ (c .before .before .before .if1 .taken) in omega arith
-
-add-word-at : tie.Need-add-word-at Inv-loop μ-loop
-add-word-at c = let h = here (c .before .before .before .before .before .before .before) _ (c .before .before .before .if1 .taken) in omega arith
-
-word-at-requires : tie.Need-word-at-requires Inv-loop μ-loop
-word-at-requires c κs =
-    let h = here (c .before .before .before .before .before .before .before) _ (c .before .before .before .if1 .taken) in
-    omega arith
+carries-requires c κs = search needs
 
 array-write-marks-2 : tie.Need-array-write-marks-2 Inv-loop μ-loop
 array-write-marks-2 c =
-    let h = here (c .before .before .before .before .before .before .before .before) _ (c .before .before .before .before .if1 .taken) in
-    omega (arith, c .word-at .ensures .0)
+    target-small _ _ (c .before .before .before .before .before .before .before .pre .0) _ _ _ (c .before .before .before .before .before .loop .inv)
+    (c .before .before .before .if1 .taken) (c .before .before .edge-of .ensures)
 
 add-e : tie.Need-add-e Inv-loop μ-loop
 add-e c = omega arith
@@ -62,12 +44,14 @@ loop-less c = omega arith
 
 loop-again : tie.Need-loop-again Inv-loop μ-loop
 loop-again c =
+    let r = c .before .before .before .before .before .before .before .pre .0 in
     let k = c .before .before .before .before .before .loop .inv in
     let l = c .before .before .before .if1 .taken in
-    let h = here (c .before .before .before .before .before .before .before) _ l in
+    let is = c .before .before .edge-of .ensures in
+    let cs = c .before .carries .ensures in
     ⊎-elim
-    (λ w. rw (w .2) (marked-hit _ _ _ _ _ _ _ k l (w .1 .ensures .0) (h .target) (sym (c .before .carries .ensures) ∙ w .0 .taken)))
-    (λ w. rw (w .1) (marked-miss _ _ _ _ _ _ _ k l (sym (c .before .carries .ensures) ∙ w .0 .left)))
+    (λ w. rw (w .1) (mark-hit _ _ r _ _ _ k l is cs (w .0 .taken)))
+    (λ w. rw (w .1) (mark-miss _ _ r _ _ _ k l is cs (w .0 .left)))
     (c .if2 .came)
 
 returns : tie.Need-returns Inv-loop μ-loop
@@ -82,11 +66,8 @@ marks-spec =
     μ-loop
     array-write-marks
     loop-holds
-    add-at
+    edge-of-requires
     carries-requires
-    mul-word-at
-    add-word-at
-    word-at-requires
     array-write-marks-2
     add-e
     loop-less

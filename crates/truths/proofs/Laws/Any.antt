@@ -1,6 +1,6 @@
 -- Laws of tests that one of several numbers in a row passes.
 --     any-none, any-hit, any-next     one step, as a loop takes it
---     any-last                        one number more
+--     any-first, any-last             one number more, before the others and behind them
 --     any-at, any-below               one number that passes is enough; from 0 on
 --     any-some, any-false             where one passes, there is such a one; where none does, each fails
 --     none-passes                     where each fails, none passes
@@ -36,6 +36,10 @@ module _ (test : ℕ → Bool) where
   unfolding any
   any-next zero at h t = absurd (omega arith)
   any-next (suc n) at h t = rw (t, sub-one)
+
+  pub any-first : (n at : ℕ) → any test (suc n) at ≡ (test at || any test n (at + 1))
+  unfolding any
+  any-first n at = refl
 
   pub any-last : (n at : ℕ) → any test (suc n) at ≡ (any test n at || test (at + n))
   unfolding any

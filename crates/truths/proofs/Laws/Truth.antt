@@ -2,6 +2,7 @@
 --     passes-or-fails                 a truth is true or not
 --     is-true, so-true, is-false, so-false     `T b` and `b ≡ true` say the same, `T (not b)` and `b ≡ false` too
 --     same-truth                      truths that imply each other are equal
+--     implies-true, implies-false     an implication, by its premise
 --     implied, implies-or             what a true premise implies is true; the implication as a disjunction
 --     implies-both, implies-own       an implication of an implication
 --     and-asked                       a conjunction with a true part is the other
@@ -41,6 +42,14 @@ same-truth false true f g = g refl
 same-truth false false f g = refl
 
 -- ---- implications
+pub implies-true : (b : Bool) → implies true b ≡ b
+unfolding implies
+implies-true b = refl
+
+pub implies-false : (b : Bool) → implies false b ≡ true
+unfolding implies
+implies-false b = refl
+
 pub implied : (a b : Bool) → implies a b ≡ true → T a → T b
 unfolding implies
 implied true b e t = so-true b e

@@ -7,10 +7,10 @@ use mathlib.Core.Bool.{Bool, true, false, cond}
 use mathlib.Core.List.{List}
 use Prim.Native.Nat.{ℕ, _+_, _/_, _%_}
 use native.Mathlib.Omega.{arith}
-use lib.ListN.{getD}
-use lib.Dec.{ltb}
+use lib.ListN.{getD, replicate}
+use lib.Dec.{ltb, lit≤}
 use Rattle.verdicts.specs.Verdict.{checkOf}
-use Rattle.report.specs.Report.{reportOf, reportBytes}
+use Rattle.report.proofs.Laws.Report.{report-number}
 use Rattle.vdcheck.specs.Printing.{digitOf, digitsOf, lineOf, printedOf}
 
 digit-zero : (n : ℕ) → digitOf n ≡ 48 → n ≡ 0
@@ -26,8 +26,8 @@ module _ (file : List ℕ) where
   number = checkOf file 32 .number
 
   pub printed-number : (getD (printedOf file) 0 0 ≡ digitOf (number / 16)) × (getD (printedOf file) 1 0 ≡ digitOf (number % 16))
-  unfolding printedOf lineOf digitsOf reportOf reportBytes
-  printed-number = (refl, refl)
+  unfolding printedOf lineOf digitsOf
+  printed-number = let opens = report-number (checkOf file 32) (replicate 32 0) (lit≤ tt) in rw (opens .1) (refl, refl)
 
   pub printed-zero : getD (printedOf file) 0 0 ≡ 48 → getD (printedOf file) 1 0 ≡ 48 → number ≡ 0
   printed-zero a b =

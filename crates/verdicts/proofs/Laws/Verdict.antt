@@ -4,127 +4,149 @@
 --     Breaks, breaks-first             the first state that breaks a condition; one that is not true has it
 --     judged-broken, judged-whole      the verdict where a condition is broken, those before it true; and where none is
 --     Broken, Whole, judged-cases      it is one of these two
+--     check-short, check-long          a report buffer of under 32 bytes is refused with 1; with a longer one the verdict on the file is given
+--     verdict-found, verdict-refused   that of a file whose parts are found, and of one that reading refuses
 -- Assumes nothing.
 use mathlib.Core.Path.{_≡_, refl}
 use mathlib.Core.Logic.{_⊎_, inl, inr}
 use mathlib.Core.Bool.{Bool, true, false}
 use mathlib.Core.List.{List}
-use Prim.Native.Nat.{ℕ, _+_, _*_, _<_}
+use Prim.Native.Nat.{ℕ, _+_, _*_, _<_, _≤_}
 use native.Mathlib.Nat.{le-refl, lt-irrefl, le-of-lt, lt-of-lt-of-le}
 use borrow.Author.Tests.{lt-ltb, le-ltb, ltb-true, ltb-false, le-leb, lt-leb, leb-true, leb-false}
 use lib.IntN.{ℤ}
 use lib.Dec.{ltb}
-use Rattle.parsing.specs.declared.Outline.{Outline}
-use Rattle.reading.specs.declared.Reading.{Reading}
-use Rattle.reading.specs.Read.{readOf}
-use Rattle.states.specs.State.{State}
-use Rattle.evaluating.proofs.Laws.Readable.{numbered, number}
+use Rattle.shapes.specs.declared.Outline.{Outline}
+use Rattle.diagrams.specs.declared.Diagram.{Diagram}
+use Rattle.diagrams.specs.declared.Found.{Found}
+use Rattle.diagrams.specs.Diagram.{foundOf, diagramOf}
+use Rattle.diagrams.specs.Diagram.{Loaded}
+use Rattle.diagrams.specs.Diagram.{State}
+use Rattle.diagrams.proofs.Laws.Diagram.{promised}
+use Rattle.states.proofs.Laws.Number.{number-below, state-of-number, number-of-state, state-within}
 use Rattle.conditions.specs.Condition.{totalOf, conditionAt}
 use Rattle.testing.specs.Holding.{conditionHolds}
 use Rattle.verdicts.specs.Verdict.{stateCount, stateAt, stateNumber}
-use Rattle.verdicts.specs.Verdict.{unnamedOf, namedOf, breakingOf, isTrue, brokenOf, brokenAt, testsOf, judgedOf}
+use Rattle.verdicts.specs.Verdict.{unnamedOf, namedOf, breakingOf, isTrue, brokenOf, brokenAt, testsOf, judgedOf, verdictBy, verdictOf, checkOf}
 use Rattle.conditions.specs.declared.Condition.{Condition}
 use Rattle.report.specs.declared.Verdict.{Verdict}
 use Rattle.truths.proofs.Laws.First.{first-is, first-passes, first-fails}
 
-module _ (file : List ℕ) (o : Outline) where
+module _ (file : List ℕ) (g : Diagram) where
   abbrev holds-at : Condition → ℕ → Bool
-  holds-at c n = conditionHolds file o c (stateAt file o n)
+  holds-at c n = conditionHolds file g c (stateAt g n)
 
   abbrev true-of : ℕ → Bool
-  true-of k = isTrue file o (conditionAt file o k)
+  true-of k = isTrue file g (conditionAt file g k)
 
   -- ---- one condition
-  pub true-at : (c : Condition) → ((n : ℕ) → n < stateCount file o → conditionHolds file o c (stateAt file o n) ≡ true) → isTrue file o c ≡ true
+  pub true-at : (c : Condition) → ((n : ℕ) → n < stateCount g → conditionHolds file g c (stateAt g n) ≡ true) → isTrue file g c ≡ true
   unfolding isTrue breakingOf
   true-at c h =
-      let s = stateCount file o in
+      let s = stateCount g in
       rw (first-is (holds-at c) s s (le-refl s) h (λ l. absurd (lt-irrefl s l))) (le-leb s s (le-refl s))
 
-  pub true-holds : (c : Condition) → isTrue file o c ≡ true → (n : ℕ) → n < stateCount file o → conditionHolds file o c (stateAt file o n) ≡ true
+  pub true-holds : (c : Condition) → isTrue file g c ≡ true → (n : ℕ) → n < stateCount g → conditionHolds file g c (stateAt g n) ≡ true
   unfolding isTrue breakingOf
-  true-holds c t n l = first-passes (holds-at c) (stateCount file o) n (lt-of-lt-of-le l (leb-true _ _ t))
+  true-holds c t n l = first-passes (holds-at c) (stateCount g) n (lt-of-lt-of-le l (leb-true _ _ t))
 
   -- n is the first state that breaks the condition
   pub record Breaks (c : Condition) (n : ℕ) : Type 0 where
-    pub state : n < stateCount file o
-    pub held : (k : ℕ) → k < n → conditionHolds file o c (stateAt file o k) ≡ true
-    pub fails : conditionHolds file o c (stateAt file o n) ≡ false
+    pub state : n < stateCount g
+    pub held : (k : ℕ) → k < n → conditionHolds file g c (stateAt g k) ≡ true
+    pub fails : conditionHolds file g c (stateAt g n) ≡ false
 
   module _ (c : Condition) {n : ℕ} (b : Breaks c n) where
-    breaks-at : breakingOf file o c ≡ n
+    breaks-at : breakingOf file g c ≡ n
     unfolding breakingOf
-    breaks-at = first-is (holds-at c) (stateCount file o) n (le-of-lt (b .state)) (b .held) (λ k. b .fails)
+    breaks-at = first-is (holds-at c) (stateCount g) n (le-of-lt (b .state)) (b .held) (λ k. b .fails)
 
-    not-true : isTrue file o c ≡ false
+    not-true : isTrue file g c ≡ false
     unfolding isTrue
-    not-true = rw breaks-at (lt-leb (stateCount file o) n (b .state))
+    not-true = rw breaks-at (lt-leb (stateCount g) n (b .state))
 
-  pub breaks-first : (c : Condition) → isTrue file o c ≡ false → Breaks c (breakingOf file o c)
+  pub breaks-first : (c : Condition) → isTrue file g c ≡ false → Breaks c (breakingOf file g c)
   unfolding isTrue breakingOf
   breaks-first c f =
       let l = leb-false _ _ f in
-      let s = stateCount file o in
+      let s = stateCount g in
       record { state = l; held = λ k m. first-passes (holds-at c) s k m; fails = first-fails (holds-at c) s l }
 
   -- ---- the verdict
-  pub judged-whole : ((k : ℕ) → k < totalOf file o → isTrue file o (conditionAt file o k) ≡ true)
-      → judgedOf file o ≡ unnamedOf 0 (totalOf file o) (totalOf file o * stateCount file o)
+  pub judged-whole : ((k : ℕ) → k < totalOf file g → isTrue file g (conditionAt file g k) ≡ true)
+      → judgedOf file g ≡ unnamedOf 0 (totalOf file g) (totalOf file g * stateCount g)
   unfolding judgedOf testsOf brokenOf
   judged-whole h =
-      let t = totalOf file o in
+      let t = totalOf file g in
       rw (first-is true-of t t (le-refl t) h (λ l. absurd (lt-irrefl t l)), le-ltb t t (le-refl t))
 
-  pub judged-broken : (k : ℕ) → k < totalOf file o → ((j : ℕ) → j < k → isTrue file o (conditionAt file o j) ≡ true)
-      → (n : ℕ) → Breaks (conditionAt file o k) n
-      → judgedOf file o ≡ namedOf (conditionAt file o k) k (stateAt file o n) (k * stateCount file o + n + 1)
+  pub judged-broken : (k : ℕ) → k < totalOf file g → ((j : ℕ) → j < k → isTrue file g (conditionAt file g j) ≡ true)
+      → (n : ℕ) → Breaks (conditionAt file g k) n
+      → judgedOf file g ≡ namedOf (conditionAt file g k) k (stateAt g n) (k * stateCount g + n + 1)
   unfolding judgedOf testsOf brokenAt brokenOf
   judged-broken k l before n b =
-      let c = conditionAt file o k in
-      let t = totalOf file o in
+      let c = conditionAt file g k in
+      let t = totalOf file g in
       rw (first-is true-of t k (le-of-lt l) before (λ j. not-true c b), lt-ltb k t l, breaks-at c b)
 
   -- condition k is the first that is not true, state n the first that breaks it
   pub record Broken (v : Verdict) : Type 0 where
     pub k : ℕ
     pub n : ℕ
-    pub below : k < totalOf file o
-    pub before : (j : ℕ) → j < k → isTrue file o (conditionAt file o j) ≡ true
-    pub breaks : Breaks (conditionAt file o k) n
-    pub is : v ≡ namedOf (conditionAt file o k) k (stateAt file o n) (k * stateCount file o + n + 1)
+    pub below : k < totalOf file g
+    pub before : (j : ℕ) → j < k → isTrue file g (conditionAt file g j) ≡ true
+    pub breaks : Breaks (conditionAt file g k) n
+    pub is : v ≡ namedOf (conditionAt file g k) k (stateAt g n) (k * stateCount g + n + 1)
 
   pub record Whole (v : Verdict) : Type 0 where
-    pub all : (k : ℕ) → k < totalOf file o → isTrue file o (conditionAt file o k) ≡ true
-    pub is : v ≡ unnamedOf 0 (totalOf file o) (totalOf file o * stateCount file o)
+    pub all : (k : ℕ) → k < totalOf file g → isTrue file g (conditionAt file g k) ≡ true
+    pub is : v ≡ unnamedOf 0 (totalOf file g) (totalOf file g * stateCount g)
 
-  pub judged-cases : Broken (judgedOf file o) ⊎ Whole (judgedOf file o)
+  pub judged-cases : Broken (judgedOf file g) ⊎ Whole (judgedOf file g)
   unfolding brokenOf
   judged-cases = go (ltb first total) refl
     where
       total : ℕ
-      total = totalOf file o
+      total = totalOf file g
 
       first : ℕ
-      first = brokenOf file o
+      first = brokenOf file g
 
-      before : (j : ℕ) → j < first → isTrue file o (conditionAt file o j) ≡ true
+      before : (j : ℕ) → j < first → isTrue file g (conditionAt file g j) ≡ true
       before j l = first-passes true-of total j l
 
-      go : (b : Bool) → ltb first total ≡ b → Broken (judgedOf file o) ⊎ Whole (judgedOf file o)
+      go : (b : Bool) → ltb first total ≡ b → Broken (judgedOf file g) ⊎ Whole (judgedOf file g)
       go true e =
           let l = ltb-true _ _ e in
-          let b = breaks-first (conditionAt file o first) (first-fails true-of total l) in
+          let b = breaks-first (conditionAt file g first) (first-fails true-of total l) in
           inl (record { k = first; n = _; below = l; before = before; breaks = b; is = judged-broken first l before _ b })
       go false e =
-          let all : (k : ℕ) → k < total → isTrue file o (conditionAt file o k) ≡ true = λ k l. before k (lt-of-lt-of-le l (ltb-false _ _ e)) in
+          let all : (k : ℕ) → k < total → isTrue file g (conditionAt file g k) ≡ true = λ k l. before k (lt-of-lt-of-le l (ltb-false _ _ e)) in
           inr (record { all = all; is = judged-whole all })
 
-module _ (file : List ℕ) (o : Outline) (r : readOf file ≡ Reading.Readable o) where
-  pub state-numbered : (n : ℕ) → n < stateCount file o → State file (o .vars) (stateAt file o n) × (stateNumber file o (stateAt file o n) ≡ n)
+module _ (file : List ℕ) (g : Diagram) (r : Loaded file g) where
+  pub state-numbered : (n : ℕ) → n < stateCount g → State g (stateAt g n) × (stateNumber g (stateAt g n) ≡ n)
   unfolding stateCount stateAt stateNumber
-  state-numbered = numbered file o r
+  state-numbered n l = let ranges = promised file g r .ranges in (state-within ranges n l, number-of-state ranges n l)
 
-  pub number-state : (state : List ℤ) → State file (o .vars) state
-      → (stateNumber file o state < stateCount file o) × (stateAt file o (stateNumber file o state) ≡ state)
+  pub number-state : (state : List ℤ) → State g state → (stateNumber g state < stateCount g) × (stateAt g (stateNumber g state) ≡ state)
   unfolding stateCount stateAt stateNumber
-  number-state = number file o r
+  number-state state s = (number-below s, state-of-number s)
+
+-- ---- any file
+module _ (file : List ℕ) where
+  pub check-short : {room : ℕ} → room < 32 → checkOf file room ≡ unnamedOf 1 0 0
+  unfolding checkOf
+  check-short l = rw (lt-ltb _ _ l)
+
+  pub check-long : {room : ℕ} → 32 ≤ room → checkOf file room ≡ verdictOf file
+  unfolding checkOf
+  check-long l = rw (le-ltb _ _ l)
+
+  pub verdict-found : (o : Outline) → foundOf file ≡ Found.Diagram o → verdictOf file ≡ judgedOf file (diagramOf file o)
+  unfolding verdictOf verdictBy
+  verdict-found o is = rw is
+
+  pub verdict-refused : (number place : ℕ) → foundOf file ≡ Found.Refused number place → verdictOf file ≡ unnamedOf number place 0
+  unfolding verdictOf verdictBy
+  verdict-refused number place is = rw is

@@ -14,7 +14,7 @@ use Rattle.conditions.specs.Condition.{conditionAt}
 use Rattle.testing.specs.Holding.{conditionHolds}
 use Rattle.testing.specs.Testing.{passesOf}
 use Rattle.testing.proofs.Laws.Testing.{passes-vacuous, passes-concluded}
-use Rattle.verdicts.proofs.Steps.Verdict.{Ready, Searched, total-is, states-small, total-small, tests-small, test-asks, named-asks}
+use Rattle.verdicts.proofs.Steps.Verdict.{Ready, Searched, states-small, total-small, tests-small, test-asks, named-asks}
 use Rattle.verdicts.proofs.Steps.Verdict.{StatesPassed, passed-begin, passed-asks, advance-asks, passed-more, passed-broke, test-asked}
 use Rattle.verdicts.proofs.Steps.Verdict.{skip-asks, passed-skip}
 use Rattle.verdicts.proofs.Steps.Verdict.{Broke, broke-small, searched-more, searched-broke, searched-end}
@@ -22,43 +22,43 @@ use Rattle.verdicts.proofs.first_break.Statement.{statement}
 use Rattle.verdicts.proofs.first_break.Tie as tie
 
 abbrev Inv-states : tie.InvT-states
-Inv-states file outline spans by-boxes low high nodes transitions states total ranges number state₀ n₀ test premise search ask₀ state n ask =
-    StatesPassed file outline (conditionHolds file outline (conditionAt file outline number)) state n
+Inv-states file diagram spans by-boxes low high states total ranges number state₀ n₀ test premise search ask₀ state n ask =
+    StatesPassed file diagram (conditionHolds file diagram (conditionAt file diagram number)) state n
 
 abbrev μ-states : tie.MeasureT-states
-μ-states file outline spans by-boxes low high nodes transitions states total ranges number state₀ n₀ test premise search ask₀ state n ask = states - n
+μ-states file diagram spans by-boxes low high states total ranges number state₀ n₀ test premise search ask₀ state n ask = states - n
 
 abbrev Inv-conditions : tie.InvT-conditions
-Inv-conditions file outline spans by-boxes low high nodes transitions states total ranges number₀ state₀ n₀ number state n =
-    Searched file outline number
+Inv-conditions file diagram spans by-boxes low high states total ranges number₀ state₀ n₀ number state n =
+    Searched file diagram number
 
 abbrev μ-conditions : tie.MeasureT-conditions
-μ-conditions file outline spans by-boxes low high nodes transitions states total ranges number₀ state₀ n₀ number state n = total - number
+μ-conditions file diagram spans by-boxes low high states total ranges number₀ state₀ n₀ number state n = total - number
 
-ready : (s : tie.Start Inv-states μ-states Inv-conditions μ-conditions) → Ready (s .args .file .now) (s .args .outline) (s .args .model)
-ready s = record { readable = s .pre .0; model-is = s .pre .1 .1 }
+abbrev start : tie.After-total Inv-states μ-states Inv-conditions μ-conditions → tie.Start Inv-states μ-states Inv-conditions μ-conditions
+start c = c .before .before .before .before
 
-abbrev start : tie.After-transitions Inv-states μ-states Inv-conditions μ-conditions → tie.Start Inv-states μ-states Inv-conditions μ-conditions
-start c = c .before .before .before .before .before
+ready : (c : tie.After-total Inv-states μ-states Inv-conditions μ-conditions) → Ready (start c .args .file .now) (start c .args .diagram) (c .total .result)
+ready c = record { loaded = start c .pre .0; total-is = c .total .ensures }
 
 -- a condition is prepared
 abbrev Opened : Type 0
 Opened = tie.After-test-of Inv-states μ-states Inv-conditions μ-conditions
 
-abbrev begin : Opened → tie.Start Inv-states μ-states Inv-conditions μ-conditions
-begin d = start (d .before .before .before .before)
+abbrev looked-up : Opened → tie.After-total Inv-states μ-states Inv-conditions μ-conditions
+looked-up d = d .before .before .before .before
 
 -- it is passed in the states before n, and `state` is the next
 abbrev passedIn : Opened → List ℤ → ℕ → Type 0
 passedIn d state n =
-    let a = begin d .args in
-    StatesPassed (a .file .now) (a .outline)
-    (conditionHolds (a .file .now) (a .outline) (conditionAt (a .file .now) (a .outline) (d .before .before .before .conditions .number))) state n
+    let a = start (looked-up d) .args in
+    StatesPassed (a .file .now) (a .diagram)
+    (conditionHolds (a .file .now) (a .diagram) (conditionAt (a .file .now) (a .diagram) (d .before .before .before .conditions .number))) state n
 
 -- where the loops were left before the last condition, they were left at a break
 broke : (c : tie.Left-conditions Inv-states μ-states Inv-conditions μ-conditions)
-    → c .before .conditions .number < start (c .before .before) .args .model .total
-    → Broke (start (c .before .before) .args .file .now) (start (c .before .before) .args .outline)
+    → c .before .conditions .number < c .before .before .total .result
+    → Broke (start (c .before .before) .args .file .now) (start (c .before .before) .args .diagram)
     (c .before .conditions .number) (c .conditions-test .state) (c .conditions-test .n)
 broke c below =
     ⊎-elim (λ w. absurd (omega (arith, below, w .0 .left)))
@@ -66,58 +66,61 @@ broke c below =
     rw (w .7, w .8)
     (⊎-elim (λ x. absurd (omega (arith, x .left, w .6 .taken)))
     (λ x.
-    passed-broke (ready (start (c .before .before))) below (w .1 .ensures) (w .2 .ensures) (w .4 .inv) (x .0 .taken)
+    passed-broke (ready (c .before .before)) below (w .1 .ensures) (w .2 .ensures) (w .4 .inv) (x .0 .taken)
     (passes-concluded _ _ _ _ _ (x .2 .ensures) (x .3 .taken) (x .4 .ensures) ∙ not-true _ (x .5 .taken)))
     (w .5 .came)))
     (c .conditions-test .came)
 
 tests-fit : (c : tie.Left-conditions Inv-states μ-states Inv-conditions μ-conditions)
-    → c .before .conditions .number < start (c .before .before) .args .model .total
-    → c .before .conditions .number * start (c .before .before) .args .model .states + c .conditions-test .n + 1 ≤ 2183135233
+    → c .before .conditions .number < c .before .before .total .result
+    → c .before .conditions .number * start (c .before .before) .args .diagram .states + c .conditions-test .n + 1 ≤ 2183135233
 tests-fit c below =
-    let r = ready (start (c .before .before)) in
+    let r = ready (c .before .before) in
     omega (arith, tests-small r (le-of-lt below), broke-small r (broke c below .1))
+
+total-requires : tie.Need-total-requires Inv-states μ-states Inv-conditions μ-conditions
+total-requires c κs = search needs
 
 conditions-holds : tie.Need-conditions-holds Inv-states μ-states Inv-conditions μ-conditions
 conditions-holds c = record { passed = omega arith; held = λ k l. absurd (omega arith) }
 
 condition-at-requires : tie.Need-condition-at-requires Inv-states μ-states Inv-conditions μ-conditions
 condition-at-requires c κs =
-    let s = start (c .before .before) in
-    (s .pre .0, omega (arith, total-is (ready s), c .conditions-test .taken))
+    let s = c .before .before in
+    (start s .pre .0, omega (arith, s .total .ensures, c .conditions-test .taken))
 
 test-of-requires : tie.Need-test-of-requires Inv-states μ-states Inv-conditions μ-conditions
-test-of-requires c κs = test-asks (ready (start (c .before .before .before))) (c .before .conditions-test .taken) (c .condition-at .ensures)
+test-of-requires c κs = test-asks (ready (c .before .before .before)) (c .before .conditions-test .taken) (c .condition-at .ensures)
 
 add-ask : tie.Need-add-ask Inv-states μ-states Inv-conditions μ-conditions
-add-ask c = omega (arith, states-small (ready (begin (c .before))))
+add-ask c = omega (arith, states-small (ready (looked-up (c .before))))
 
 states-holds : tie.Need-states-holds Inv-states μ-states Inv-conditions μ-conditions
-states-holds c = passed-begin (ready (begin (c .before))) _
+states-holds c = passed-begin (ready (looked-up (c .before))) _
 
 advance-requires : tie.Need-advance-requires Inv-states μ-states Inv-conditions μ-conditions
 advance-requires c κs =
     let d = c .before .before .before in
-    advance-asks (ready (begin d)) (d .before .before .conditions-test .taken) (d .before .condition-at .ensures) (d .test-of .ensures)
+    advance-asks (ready (looked-up d)) (d .before .before .conditions-test .taken) (d .before .condition-at .ensures) (d .test-of .ensures)
     (c .before .states .inv) (c .states-test .taken)
 
 holds-requires : tie.Need-holds-requires Inv-states μ-states Inv-conditions μ-conditions
 holds-requires c κs =
     let d = c .before .before .before .before in
-    let asks = passed-asks (ready (begin d)) (d .before .before .conditions-test .taken) (d .before .condition-at .ensures) (d .test-of .ensures)
+    let asks = passed-asks (ready (looked-up d)) (d .before .before .conditions-test .taken) (d .before .condition-at .ensures) (d .test-of .ensures)
     (c .before .before .states .inv) (c .before .states-test .taken) in
-    (asks .1 .premise _ (asks .0), begin d .pre .1 .0)
+    (asks .1 .premise _ (asks .0), start (looked-up d) .pre .1)
 
 concludes-requires : tie.Need-concludes-requires Inv-states μ-states Inv-conditions μ-conditions
 concludes-requires c κs =
     let d = c .before .before .before .before .before .before in (
-      begin d .pre .1 .0,
-      passed-asks (ready (begin d)) (d .before .before .conditions-test .taken) (d .before .condition-at .ensures) (d .test-of .ensures)
+      start (looked-up d) .pre .1,
+      passed-asks (ready (looked-up d)) (d .before .before .conditions-test .taken) (d .before .condition-at .ensures) (d .test-of .ensures)
           (c .before .before .before .before .states .inv) (c .before .before .before .states-test .taken),
     )
 
 add-n : tie.Need-add-n Inv-states μ-states Inv-conditions μ-conditions
-add-n c = omega (arith, c .before .before .before .states-test .taken, states-small (ready (begin (c .before .before .before .before .before .before))))
+add-n c = omega (arith, c .before .before .before .states-test .taken, states-small (ready (looked-up (c .before .before .before .before .before .before))))
 
 -- one state more is passed
 moved : (c : tie.Joined2 Inv-states μ-states Inv-conditions μ-conditions)
@@ -125,7 +128,7 @@ moved : (c : tie.Joined2 Inv-states μ-states Inv-conditions μ-conditions)
 moved c =
     let d = c .before .before .before .before .before .before in
     let premise = c .before .holds .ensures in
-    passed-more (ready (begin d)) (d .before .before .conditions-test .taken) (d .before .condition-at .ensures) (d .test-of .ensures)
+    passed-more (ready (looked-up d)) (d .before .before .conditions-test .taken) (d .before .condition-at .ensures) (d .test-of .ensures)
     (c .before .before .before .before .states .inv) (c .before .before .before .states-test .taken)
     (⊎-elim {C = passesOf _ _ _ _ _ ≡ true} (λ w. passes-concluded _ _ _ _ _ premise (w .0 .taken) (w .1 .ensures) ∙ not-false _ (w .2 .left))
     (λ w. passes-vacuous _ _ _ _ _ premise (w .left))
@@ -133,20 +136,24 @@ moved c =
     (c .before .before .advance .ensures)
 
 mul-ask : tie.Need-mul-ask Inv-states μ-states Inv-conditions μ-conditions
-mul-ask c = omega (arith, c .before .if4 .taken, c .before .before .before .before .before .states-test .taken, states-small (ready (begin (c .before .before .before .before .before .before .before .before))))
+mul-ask c =
+    let d = c .before .before .before .before .before .before .before .before in
+    omega (arith, c .before .if4 .taken, c .before .before .before .before .before .states-test .taken, states-small (ready (looked-up d)))
 
 budget-requires : tie.Need-budget-requires Inv-states μ-states Inv-conditions μ-conditions
 budget-requires c κs =
     let d = c .before .before .before .before .before .before .before .before in
-    test-asked (ready (begin d)) (d .before .before .conditions-test .taken) (d .before .condition-at .ensures) (d .test-of .ensures) .few
+    test-asked (ready (looked-up d)) (d .before .before .conditions-test .taken) (d .before .condition-at .ensures) (d .test-of .ensures) .few
 
 add-ask-2 : tie.Need-add-ask-2 Inv-states μ-states Inv-conditions μ-conditions
-add-ask-2 c = omega (arith, states-small (ready (begin (c .before .before .before .before .before .before .before .before .before .before))))
+add-ask-2 c = omega (arith, states-small (ready (looked-up (c .before .before .before .before .before .before .before .before .before .before))))
 
 skip-requires : tie.Need-skip-requires Inv-states μ-states Inv-conditions μ-conditions
 skip-requires c κs =
-    let d = c .before .before .before .before .before .before .before .before .before .before in
-    (begin d .pre .1 .0, skip-asks (ready (begin d)) (d .before .before .conditions-test .taken) (d .before .condition-at .ensures) (d .test-of .ensures))
+    let d = c .before .before .before .before .before .before .before .before .before .before in (
+      start (looked-up d) .pre .1,
+      skip-asks (ready (looked-up d)) (d .before .before .conditions-test .taken) (d .before .condition-at .ensures) (d .test-of .ensures),
+    )
 
 -- or more, by boxes
 further : (c : tie.After-skip Inv-states μ-states Inv-conditions μ-conditions)
@@ -154,7 +161,7 @@ further : (c : tie.After-skip Inv-states μ-states Inv-conditions μ-conditions)
     × (c .before .before .before .before .before .before .before .before .before .states .n + 1 ≤ c .skip .result .number)
 further c =
     let d = c .before .before .before .before .before .before .before .before .before .before .before in
-    passed-skip (ready (begin d)) (d .before .before .conditions-test .taken) (d .before .condition-at .ensures) (d .test-of .ensures)
+    passed-skip (ready (looked-up d)) (d .before .before .conditions-test .taken) (d .before .condition-at .ensures) (d .test-of .ensures)
     (moved (c .before .before .before .before .before)) _ (c .skip .ensures)
 
 states-less : tie.Need-states-less Inv-states μ-states Inv-conditions μ-conditions
@@ -170,26 +177,26 @@ states-again-2 : tie.Need-states-again-2 Inv-states μ-states Inv-conditions μ-
 states-again-2 c = moved (c .before)
 
 add-number : tie.Need-add-number Inv-states μ-states Inv-conditions μ-conditions
-add-number c = omega (arith, c .before .before .before .before .before .before .conditions-test .taken, total-small (ready (begin (c .before .before .before .before))))
+add-number c =
+    let d = c .before .before .before .before in
+    omega (arith, d .before .before .conditions-test .taken, total-small (ready (looked-up d)))
 
 conditions-less : tie.Need-conditions-less Inv-states μ-states Inv-conditions μ-conditions
 conditions-less c = omega (arith, c .before .before .before .before .before .before .conditions-test .taken)
 
 conditions-again : tie.Need-conditions-again Inv-states μ-states Inv-conditions μ-conditions
 conditions-again c =
-    searched-more (ready (c .before .before .before .before .before .before .before .before .before .before .before .before .before))
+    searched-more (ready (c .before .before .before .before .before .before .before .before))
     (c .before .before .before .before .before .before .before .conditions .inv)
     (c .before .before .before .before .before .before .conditions-test .taken) (c .before .before .states .inv) (c .if6 .left)
 
 condition-at-requires-2 : tie.Need-condition-at-requires-2 Inv-states μ-states Inv-conditions μ-conditions
-condition-at-requires-2 c κs = (
-  c .before .before .before .before .before .before .before .before .pre .0,
-  omega
-      (arith, total-is (ready (c .before .before .before .before .before .before .before .before)), c .if7 .taken),
-)
+condition-at-requires-2 c κs =
+    let s = c .before .before .before in
+    (start s .pre .0, omega (arith, s .total .ensures, c .if7 .taken))
 
 cast-named : tie.Need-cast-named Inv-states μ-states Inv-conditions μ-conditions
-cast-named c = record { fits = omega (arith, total-small (ready (c .before .before .before .before .before .before .before .before .before))) }
+cast-named c = record { fits = omega (arith, total-small (ready (c .before .before .before .before))) }
 
 mul-named : tie.Need-mul-named Inv-states μ-states Inv-conditions μ-conditions
 mul-named c = omega (arith, tests-fit (c .before .before) (c .before .if7 .taken))
@@ -202,29 +209,29 @@ add-named-2 c = omega (arith, tests-fit (c .before .before .before) (c .before .
 
 named-requires : tie.Need-named-requires Inv-states μ-states Inv-conditions μ-conditions
 named-requires c κs =
-    named-asks (ready (c .before .before .before .before .before .before .before .before .before .before)) (c .before .before .if7 .taken)
+    named-asks (ready (c .before .before .before .before .before)) (c .before .before .if7 .taken)
     (c .before .condition-at2 .ensures)
 
 returns : tie.Need-returns Inv-states μ-states Inv-conditions μ-conditions
 returns c =
     c .named .ensures
-    ∙ searched-broke (ready (c .before .before .before .before .before .before .before .before .before .before .before))
+    ∙ searched-broke (ready (c .before .before .before .before .before .before))
     (c .before .before .before .before .before .conditions .inv)
     (c .before .before .before .if7 .taken) (c .before .before .condition-at2 .ensures)
     (broke (c .before .before .before .before) (c .before .before .before .if7 .taken)) (omega arith)
 
 cast-unnamed : tie.Need-cast-unnamed Inv-states μ-states Inv-conditions μ-conditions
-cast-unnamed c = record { fits = omega (arith, total-small (ready (c .before .before .before .before .before .before .before .before))) }
+cast-unnamed c = record { fits = omega (arith, total-small (ready (c .before .before .before))) }
 
 mul-unnamed : tie.Need-mul-unnamed Inv-states μ-states Inv-conditions μ-conditions
-mul-unnamed c = omega (arith, tests-small (ready (c .before .before .before .before .before .before .before .before)) (le-refl _))
+mul-unnamed c = omega (arith, tests-small (ready (c .before .before .before)) (le-refl _))
 
 unnamed-requires : tie.Need-unnamed-requires Inv-states μ-states Inv-conditions μ-conditions
 unnamed-requires c κs = search needs
 
 returns-2 : tie.Need-returns-2 Inv-states μ-states Inv-conditions μ-conditions
 returns-2 c =
-    c .unnamed .ensures ∙ searched-end (ready (c .before .before .before .before .before .before .before .before .before))
+    c .unnamed .ensures ∙ searched-end (ready (c .before .before .before .before))
     (c .before .before .before .conditions .inv)
     (c .before .if7 .left) (omega arith)
 
@@ -236,6 +243,7 @@ first-break-spec =
     μ-states
     Inv-conditions
     μ-conditions
+    total-requires
     conditions-holds
     condition-at-requires
     test-of-requires

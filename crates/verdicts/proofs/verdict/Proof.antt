@@ -1,47 +1,52 @@
 -- `verdicts::verdict` meets its contract, by the case that reading answers.
 -- Assumes nothing.
+use borrow.Author.Needs.{needs}
 use mathlib.Core.Path.{sym, _∙_}
 use native.Mathlib.Omega.{arith}
-use Rattle.reading.proofs.Laws.Refusal.{read-refuses}
-use Rattle.verdicts.specs.Verdict.{testsOf, verdictBy}
-use borrow.Author.Needs.{needs}
+use Rattle.diagrams.proofs.Laws.Diagram.{find-refuses}
+use Rattle.verdicts.specs.Verdict.{verdictBy, verdictOf}
+use Rattle.verdicts.proofs.Steps.Verdict.{loads}
 use Rattle.verdicts.proofs.verdict.Statement.{statement}
 use Rattle.verdicts.proofs.verdict.Tie as tie
 
-read-requires : tie.Need-read-requires
-read-requires c κs = search needs
+find-requires : tie.Need-find-requires
+find-requires c κs = search needs
 
 enum-known-found : tie.Need-enum-known-found
 enum-known-found c = search needs
 
+diagram-of-requires : tie.Need-diagram-of-requires
+diagram-of-requires c κs = sym (c .before .before .before .find .ensures) ∙ c .before .found .given .1
+
 judge-requires : tie.Need-judge-requires
-judge-requires c κs = sym (c .before .before .before .read .ensures) ∙ c .before .found .given .1
+judge-requires c κs = loads (sym (c .before .before .before .before .find .ensures) ∙ c .before .before .found .given .1) (c .diagram-of .ensures)
 
 enum-known-found-2 : tie.Need-enum-known-found-2
 enum-known-found-2 c = search needs
 
 cast-unnamed : tie.Need-cast-unnamed
-cast-unnamed c =
-    let e = sym (c .before .before .before .read .ensures) ∙ c .before .found2 .given .1 in
-    record { fits = omega (arith, read-refuses _ _ _ e .within) }
+cast-unnamed c = record { fits = omega (arith, find-refuses _ _ _ (sym (c .before .before .before .find .ensures) ∙ c .before .found2 .given .1) .1) }
 
 unnamed-requires : tie.Need-unnamed-requires
 unnamed-requires c κs = search needs
 
 returns : tie.Need-returns
-unfolding verdictBy testsOf
-returns c = c .judge .ensures ∙ simp (sym (c .before .before .before .before .read .ensures) ∙ c .before .before .found .given .1)
+unfolding verdictOf verdictBy
+returns c =
+    c .judge .ensures
+    ∙ rw (sym (c .before .before .before .before .before .find .ensures) ∙ c .before .before .before .found .given .1, c .before .diagram-of .ensures)
 
 returns-2 : tie.Need-returns-2
-unfolding verdictBy testsOf
-returns-2 c = c .unnamed .ensures ∙ simp (sym (c .before .before .before .before .read .ensures) ∙ c .before .before .found2 .given .1)
+unfolding verdictOf verdictBy
+returns-2 c = c .unnamed .ensures ∙ rw (sym (c .before .before .before .before .find .ensures) ∙ c .before .before .found2 .given .1)
 
 pub verdict-spec : {M : Type 1} → statement M
 verdict-spec =
     tie.close
     (tie.spec
-    read-requires
+    find-requires
     enum-known-found
+    diagram-of-requires
     judge-requires
     enum-known-found-2
     cast-unnamed

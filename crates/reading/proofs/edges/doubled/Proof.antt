@@ -1,17 +1,19 @@
--- `reading::edges::doubled`: whether one of the edges left is double and from the node is whether one of all is; they are in the file.
--- Assumes nothing.
-use mathlib.Core.Path.{_≡_, refl, sym, _∙_}
+-- `reading::edges::doubled`: none of the edges tried so far is a double one from the node, so the search goes on among those left.
+use mathlib.Core.Path.{_≡_, refl, sym, ap, _∙_}
+use borrow.Author.Needs.{needs}
 use Prim.Native.Nat.{_+_, _*_, _≤_}
 use native.Mathlib.Omega.{arith}
 use lib.ListN.{length}
+use Rattle.sections.specs.Section.{edgeAt}
 use Rattle.truths.specs.Search.{any}
-use Rattle.reading.specs.Edge.{doubleFrom, doubledOf}
 use Rattle.truths.proofs.Laws.Any.{any-none, any-hit, any-next}
+use Rattle.reading.specs.Edge.{doubleFrom, doubledOf}
 use Rattle.reading.proofs.edges.doubled.Statement.{statement}
 use Rattle.reading.proofs.edges.doubled.Tie as tie
 
 abbrev Inv-loop : tie.InvT-loop
-Inv-loop file node left₀ at₀ left at = (any (doubleFrom file node) left₀ at₀ ≡ any (doubleFrom file node) left at) × (8 * (at + left) ≤ length file)
+Inv-loop file node left₀ at₀ left at =
+    (any (λ i. doubleFrom node (edgeAt file i)) left₀ at₀ ≡ any (λ i. doubleFrom node (edgeAt file i)) left at) × (8 * (at + left) ≤ length file)
 
 abbrev μ-loop : tie.MeasureT-loop
 μ-loop file node left₀ at₀ left at = left
@@ -19,14 +21,19 @@ abbrev μ-loop : tie.MeasureT-loop
 loop-holds : tie.Need-loop-holds Inv-loop μ-loop
 loop-holds c = (refl, omega (arith, c .before .pre .edges-here))
 
+edge-at-requires : tie.Need-edge-at-requires Inv-loop μ-loop
+edge-at-requires c κs = omega arith
+
 double-from-requires : tie.Need-double-from-requires Inv-loop μ-loop
-double-from-requires c κs = omega arith
+double-from-requires c κs = search needs
 
 returns : tie.Need-returns Inv-loop μ-loop
 unfolding doubledOf
 returns c =
-    let all = c .before .before .before .loop .inv .0 in
-    sym (all ∙ any-hit _ _ _ (c .before .before .loop-test .taken) (sym (c .before .double-from .ensures) ∙ c .if1 .taken))
+    let edge = c .before .before in
+    let loop = edge .before .before in
+    let tested = c .before .double-from .ensures ∙ ap (doubleFrom (loop .before .before .args .node)) (edge .edge-at .ensures) in
+    sym (loop .loop .inv .0 ∙ any-hit _ _ _ (edge .before .loop-test .taken) (sym tested ∙ c .if1 .taken))
 
 add-at : tie.Need-add-at Inv-loop μ-loop
 add-at c = omega arith
@@ -39,8 +46,10 @@ loop-less c = omega arith
 
 loop-again : tie.Need-loop-again Inv-loop μ-loop
 loop-again c =
-    let all = c .before .before .before .loop .inv .0 in
-    (all ∙ any-next _ _ _ (c .before .before .loop-test .taken) (sym (c .before .double-from .ensures) ∙ c .if1 .left), omega arith)
+    let edge = c .before .before in
+    let loop = edge .before .before in
+    let tested = c .before .double-from .ensures ∙ ap (doubleFrom (loop .before .before .args .node)) (edge .edge-at .ensures) in
+    (loop .loop .inv .0 ∙ any-next _ _ _ (edge .before .loop-test .taken) (sym tested ∙ c .if1 .left), omega arith)
 
 returns-2 : tie.Need-returns-2 Inv-loop μ-loop
 unfolding doubledOf
@@ -53,6 +62,7 @@ doubled-spec =
     Inv-loop
     μ-loop
     loop-holds
+    edge-at-requires
     double-from-requires
     returns
     add-at

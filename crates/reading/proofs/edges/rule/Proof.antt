@@ -1,65 +1,56 @@
--- `reading::edges::rule`: each answer is what `ruleOf` says by the tests passed so far.
--- Assumes nothing.
-use mathlib.Core.Path.{sym, _∙_}
-use borrow.Author.Tests.{not-true, not-false}
-use Rattle.reading.proofs.Steps.Edge.{rule-invariance, rule-rises, rule-waiting, rule-chain}
+-- `reading::edges::rule`: where the edge leads, then the rules of double edges where there are any, decide `ruleOf`.
+use mathlib.Core.Path.{sym, ap, _∙_}
+use Rattle.shapes.specs.Property.{propertyOf}
+use Rattle.reading.proofs.Steps.Edge.{rule-leaves, rule-doubles, rule-single}
 use borrow.Author.Needs.{needs}
 use Rattle.reading.proofs.edges.rule.Statement.{statement}
 use Rattle.reading.proofs.edges.rule.Tie as tie
 
-mul-diagram : tie.Need-mul-diagram
-mul-diagram c = search needs
+claim-at-requires : tie.Need-claim-at-requires
+claim-at-requires c κs = c .before .pre .outline .property-here
 
-add-diagram : tie.Need-add-diagram
-add-diagram c = search needs
+property-of-requires : tie.Need-property-of-requires
+property-of-requires c κs = search needs
 
-shared-slice-read-diagram : tie.Need-shared-slice-read-diagram
-shared-slice-read-diagram c = search needs
+edge-at-requires : tie.Need-edge-at-requires
+edge-at-requires c κs = c .before .before .before .pre .here
 
-mul-single : tie.Need-mul-single
-mul-single c = search needs
-
-add-single : tie.Need-add-single
-add-single c = search needs
-
-shared-slice-read-single : tie.Need-shared-slice-read-single
-shared-slice-read-single c = search needs
+leads-requires : tie.Need-leads-requires
+leads-requires c κs = search needs
 
 returns : tie.Need-returns
-returns c = sym (rule-invariance _ _ _ (c .if1 .taken))
+returns c =
+    let edge = c .before .before in
+    let row = edge .before .property-of .ensures ∙ ap propertyOf (edge .before .before .claim-at .ensures) in
+    sym (rule-leaves _ _ _ (edge .edge-at .ensures) row (c .before .leads .ensures) (c .if1 .taken))
 
-descends-requires : tie.Need-descends-requires
-descends-requires c κs = search needs
+double-rule-requires : tie.Need-double-rule-requires
+double-rule-requires c κs = search needs
 
 returns-2 : tie.Need-returns-2
-returns-2 c = sym (rule-rises _ _ _ (c .before .before .if1 .left) (sym (c .before .descends .ensures) ∙ not-true _ (c .if2 .taken)))
+returns-2 c =
+    let leads = c .before .before .before in
+    let edge = leads .before in
+    let row = edge .before .property-of .ensures ∙ ap propertyOf (edge .before .before .claim-at .ensures) in
+    let rule = rule-doubles _ _ _ (edge .edge-at .ensures) row (leads .leads .ensures) (c .before .before .if1 .left) (c .before .if2 .taken) in
+    c .double-rule .ensures ∙ sym rule
 
 returns-3 : tie.Need-returns-3
 returns-3 c =
-    let descends = sym (c .before .before .descends .ensures) ∙ not-false _ (c .before .if2 .left) in
-    sym (rule-waiting _ _ _ (c .before .before .before .if1 .left) descends (c .if3 .taken))
-
-chain-rule-requires : tie.Need-chain-rule-requires
-chain-rule-requires c κs = search needs
-
-returns-4 : tie.Need-returns-4
-returns-4 c =
-    let descends = sym (c .before .before .before .descends .ensures) ∙ not-false _ (c .before .before .if2 .left) in
-    c .chain-rule .ensures ∙ sym (rule-chain _ _ _ (c .before .before .before .before .if1 .left) descends (c .before .if3 .left))
+    let leads = c .before .before .before in
+    let edge = leads .before in
+    let row = edge .before .property-of .ensures ∙ ap propertyOf (edge .before .before .claim-at .ensures) in
+    sym (rule-single _ _ _ (edge .edge-at .ensures) row (leads .leads .ensures) (c .before .before .if1 .left) (c .before .if2 .left))
 
 pub rule-spec : {M : Type 1} → statement M
 rule-spec =
     tie.close
     (tie.spec
-    mul-diagram
-    add-diagram
-    shared-slice-read-diagram
-    mul-single
-    add-single
-    shared-slice-read-single
+    claim-at-requires
+    property-of-requires
+    edge-at-requires
+    leads-requires
     returns
-    descends-requires
+    double-rule-requires
     returns-2
-    returns-3
-    chain-rule-requires
-    returns-4)
+    returns-3)

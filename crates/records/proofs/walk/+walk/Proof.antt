@@ -3,9 +3,9 @@
 use mathlib.Core.Path.{_≡_, refl, _∙_}
 use native.Mathlib.Omega.{arith}
 use borrow.Author.Needs.{needs}
-use Rattle.records.proofs.Steps.Walk.{sequence-ends, sequence-refused, sequence-none}
+use Rattle.records.proofs.Steps.Walk.{operands-ends, operands-refused, operands-none}
 use Rattle.records.proofs.Steps.Walk.{walk-short, walk-unfit, walk-field, walk-deep, walk-step}
-use Rattle.records.specs.Walk.{inSequence, walkOf}
+use Rattle.records.specs.Walk.{operandsOf, walkOf}
 use Prim.Native.Nat.{ℕ, _+_, _-_, _<_}
 use borrow.Fn.Kinds.{In}
 use borrow.Fn.PlainCycle.{Measures, is, falls, and}
@@ -30,11 +30,11 @@ abbrev others : ℕ → walk-lts.Claims
 others t = (signature-at-reads.Asked, signature-at-reads.Learnt, expression-fields-reads.Asked, expression-fields-reads.Learnt, walk-below t, walk.Post)
 
 abbrev walk-Inv-loop : walk-lts.InvT-loop
-walk-Inv-loop file at want vars levels sort over left₀ next₀ left next =
-    inSequence (walkOf file vars (levels - 1) over) left₀ next₀ ≡ inSequence (walkOf file vars (levels - 1) over) left next
+walk-Inv-loop file at want vars levels sort second over₀ left₀ next₀ over left next =
+    operandsOf (walkOf file vars (levels - 1)) over₀ second left₀ next₀ ≡ operandsOf (walkOf file vars (levels - 1)) over second left next
 
 abbrev walk-μ-loop : walk-lts.MeasureT-loop
-walk-μ-loop file at want vars levels sort over left₀ next₀ left next = left
+walk-μ-loop file at want vars levels sort second over₀ left₀ next₀ over left next = left
 
 walk-returns : (t : ℕ) → walk-lts.Need-returns (others t) (walk-at t) walk.Post walk-Inv-loop walk-μ-loop
 walk-returns t c = walk-short _ _ _ _ _ (c .if1 .taken)
@@ -72,7 +72,7 @@ begun : (t : ℕ) (c : walk-lts.Else4 (others t) (walk-at t) walk.Post walk-Inv-
     let a = c .before .before .before .before .before .before .before .args in
     let s = c .before .before .before .before .signature-at .result in
     walkOf (a .file .now) (a .vars) (a .levels) (a .want) (a .at)
-    ≡ inSequence (walkOf (a .file .now) (a .vars) (a .levels - 1) (s .over)) (s .operands) (a .at + 1)
+    ≡ operandsOf (walkOf (a .file .now) (a .vars) (a .levels - 1)) (s .first) (s .second) (s .operands) (a .at + 1)
 begun t c =
     let f = c .before .before in
     let s = f .before .before in
@@ -95,7 +95,7 @@ walk-returns-5 : (t : ℕ) → walk-lts.Need-returns-5 (others t) (walk-at t) wa
 walk-returns-5 t c =
     let w = c .before .before .before in
     let l = w .before .before in
-    sequence-refused _ _ _ (begun t (l .before) ∙ l .loop .inv) (w .before .loop-test .taken) (w .walk .ensures) (c .before .operand2 .given .1)
+    operands-refused _ _ _ _ _ (begun t (l .before) ∙ l .loop .inv) (w .before .loop-test .taken) (w .walk .ensures) (c .before .operand2 .given .1)
 
 walk-sub-left : (t : ℕ) → walk-lts.Need-sub-left (others t) (walk-at t) walk.Post walk-Inv-loop walk-μ-loop
 walk-sub-left t c = omega arith
@@ -106,10 +106,10 @@ walk-loop-less t c = omega arith
 walk-loop-again : (t : ℕ) → walk-lts.Need-loop-again (others t) (walk-at t) walk.Post walk-Inv-loop walk-μ-loop
 walk-loop-again t c =
     let w = c .before .before .before in
-    sequence-ends _ _ _ (w .before .before .loop .inv) (w .before .loop-test .taken) (w .walk .ensures) (c .before .operand .given .1)
+    operands-ends _ _ _ _ _ (w .before .before .loop .inv) (w .before .loop-test .taken) (w .walk .ensures) (c .before .operand .given .1)
 
 walk-returns-6 : (t : ℕ) → walk-lts.Need-returns-6 (others t) (walk-at t) walk.Post walk-Inv-loop walk-μ-loop
-walk-returns-6 t c = sequence-none _ _ _ (begun t (c .before .before) ∙ c .before .loop .inv) (c .loop-test .left)
+walk-returns-6 t c = operands-none _ _ _ _ _ (begun t (c .before .before) ∙ c .before .loop .inv) (c .loop-test .left)
 
 pub +walk-spec : {M : Type 1} → statement M
 +walk-spec = close μ-walk λ t. walk-lts.spec (others t)

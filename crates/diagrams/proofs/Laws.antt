@@ -1,0 +1,3 @@
+pub mod Diagram
+pub mod System
+pub mod Truth

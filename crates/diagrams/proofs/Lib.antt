@@ -1,0 +1,5 @@
+pub mod Laws
+mod Steps
+pub mod Files
+pub mod Computing
+pub mod Values

@@ -1,0 +1,67 @@
+-- The diagram of a file, with its system: the states, and where the transitions and the parts of the diagram stand; and which files are readable.
+use mathlib.Core.Path.{_≡_}
+use mathlib.Core.List.{List}
+use Prim.Native.Nat.{ℕ, _+_}
+use lib.ListN.{getD}
+use lib.IntN.{ℤ}
+use Rattle.shapes.specs.declared.Edge.{Edge}
+use Rattle.shapes.specs.declared.Outline.{Outline}
+use Rattle.records.specs.Place.{placesOf}
+use Rattle.truths.specs.Table.{tableOf}
+use Rattle.sections.specs.Section.{claimAt, propertyAt, edgeAt, transitionOf, nodeOf}
+use Rattle.reading.specs.declared.Reading.{Reading}
+use Rattle.reading.specs.Read.{readOf}
+use Rattle.states.specs.State.{Within}
+use Rattle.ranges.specs.Range.{lowsOf, highsOf}
+use Rattle.states.specs.Number.{countOf}
+use Rattle.diagrams.specs.declared.Diagram.{Diagram}
+use Rattle.diagrams.specs.declared.Found.{Found}
+
+-- what reading finds: the parts of a file, or the first refusal from 2 to 10
+unfoldable pub foundBy : Reading → Found
+foundBy (Reading.Found o) = Found.Diagram o
+foundBy (Reading.Refused number place) = Found.Refused number place
+
+unfoldable pub foundOf : List ℕ → Found
+foundOf file = foundBy (readOf file)
+
+-- "06 node, then its assertion": behind the records of the first n nodes
+unfoldable pub assertionsOf : List ℕ → ℕ → List ℕ
+assertionsOf nodes n = tableOf 32 0 (λ i. getD nodes i 0 + 1) n
+
+-- "02 start, then a truth expression"; "05 property. .. then q", or p and the q's
+unfoldable pub diagramOf : List ℕ → Outline → Diagram
+diagramOf file o =
+    record {
+      vars = o .vars;
+      low = lowsOf file (o .vars);
+      high = highsOf file (o .vars);
+      states = countOf (lowsOf file (o .vars)) (highsOf file (o .vars));
+      start = o .vars + 1;
+      transitions = o .transitions;
+      steps = placesOf (transitionOf file (o .vars)) (o .transitions) (o .transition);
+      claim = claimAt file (o .property);
+      claimed = o .property + 1;
+      nodes = o .nodes;
+      assertions = assertionsOf (placesOf (nodeOf file (o .vars) (propertyAt file (o .property) .ranks)) (o .nodes) (o .node)) (o .nodes);
+      edges = o .edges;
+      edge = o .edge;
+    }
+
+-- g is the diagram of the file, in which reading found its parts
+pub record Loaded (file : List ℕ) (g : Diagram) : Type 0 where
+  pub outline : Outline
+  pub found : foundOf file ≡ Found.Diagram outline
+  pub is : g ≡ diagramOf file outline
+
+-- "A file is readable if no refusal that the check itself tries after 1 and before 11 meets it."
+unfoldable pub Readable : List ℕ → Diagram → Type 0
+Readable file g = Loaded file g
+
+-- "A state gives every variable a value in its range."
+abbrev pub State : Diagram → List ℤ → Type 0
+State g state = Within (g .low) (g .high) state
+
+-- edge e, counted from 0
+unfoldable pub edgeOf : List ℕ → Diagram → ℕ → Edge
+edgeOf file g e = edgeAt file (g .edge + e)

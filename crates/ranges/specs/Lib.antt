@@ -1,0 +1,2 @@
+-- The ranges of a file's variables.
+pub mod Range

@@ -1,4 +1,5 @@
 -- What the verdict on a readable file decides: demand 2.
+--     number-is                            equal verdicts have one number
 --     true-everywhere, everywhere-true     a condition is true exactly if it holds at each state, by its values
 --     accepted, accepts                    number 0 says that every condition holds at every state; where all do, the verdict is 0 with the total
 --     refused                              any other number names the first condition that is not true, with the lowest state that breaks it
@@ -28,7 +29,7 @@ use Rattle.deciding.specs.Decision.{Everywhere, Names, testsMade, Judges
 use Rattle.deciding.proofs.Laws.Tests.{made-whole, made-broken}
 
 -- the number of a verdict, by what it is
-number-is : {v w : Verdict} → v ≡ w → v .number ≡ w .number
+pub number-is : {v w : Verdict} → v ≡ w → v .number ≡ w .number
 number-is e = ap (λ (v : Verdict). v .number) e
 
 module _ (file : List ℕ) (g : Diagram) where

@@ -4,7 +4,7 @@
 --                                 the first untrue condition is named with the lowest-numbered state that breaks it; the tests made
 --     check-claims                what an accepted file claims is true (demand 3)
 -- Assumes nothing.
-use mathlib.Core.Path.{_≡_, refl, sym, ap, _∙_}
+use mathlib.Core.Path.{_≡_, refl, sym, _∙_}
 use mathlib.Core.List.{List}
 use Prim.Native.Nat.{ℕ, _<_, _≤_}
 use native.Mathlib.Decide.{ℕ-discrete, decLt}
@@ -21,16 +21,13 @@ use Rattle.report.proofs.Laws.Report.{report-rest}
 use Rattle.verdicts.specs.Verdict.{judgedOf, verdictOf, checkOf}
 use Rattle.verdicts.proofs.Laws.Verdict.{check-short, check-long, verdict-found, verdict-refused}
 use Rattle.deciding.specs.Decision.{Decides}
-use Rattle.deciding.proofs.Laws.Decision.{accepted, accepts, refused, judges}
+use Rattle.deciding.proofs.Laws.Decision.{number-is, accepted, accepts, refused, judges}
 use Rattle.soundness.specs.System.{Claim}
 use Rattle.soundness.proofs.Laws.Sound.{sound}
 
 -- the verdict of a diagram is that on its file
 judged : (file : List ℕ) (g : Diagram) → Loaded file g → verdictOf file ≡ judgedOf file g
 judged file g r = rw (r .is) (verdict-found file (r .outline) (r .found))
-
-number-is : {v w : Verdict} → v ≡ w → v .number ≡ w .number
-number-is e = ap (λ (v : Verdict). v .number) e
 
 -- ---- demand 3
 accepted-claims : (file : List ℕ) → verdictOf file .number ≡ 0 → Claim file

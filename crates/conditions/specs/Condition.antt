@@ -46,28 +46,21 @@ abbrev pub Listed : List ℕ → Diagram → Condition → Type 0
 Listed file g c = List·Memᴰ c (conditionsOf file g)
 
 -- ---- the name of a broken condition
--- "13. Start is broken. 14. Entry is broken. 15. Cover is broken. 16. Range is broken. 17. Step is broken. 18. Enabling is broken."
-unfoldable pub refusalNumber : Condition → ℕ
-refusalNumber Start = 13
-refusalNumber Entry = 14
-refusalNumber (Cover n) = 15
-refusalNumber (Range n t) = 16
-refusalNumber (Step n t) = 17
-refusalNumber (Enabling n t) = 18
+-- its number of refusal, node and transition: "13. Start is broken. 14. Entry is broken. 15. Cover is broken. 16. Range is broken. 17. Step is broken.
+-- 18. Enabling is broken."; "1 node and 2 transition (255 where the condition has none ..)"
+unfoldable pub nameOf : Condition → ℕ × ℕ × ℕ
+nameOf Start = (13, 255, 255)
+nameOf Entry = (14, 255, 255)
+nameOf (Cover n) = (15, n, 255)
+nameOf (Range n t) = (16, n, t)
+nameOf (Step n t) = (17, n, t)
+nameOf (Enabling n t) = (18, n, t)
 
--- "1 node and 2 transition (255 where the condition has none ..)"
-unfoldable pub nodeNumber : Condition → ℕ
-nodeNumber Start = 255
-nodeNumber Entry = 255
-nodeNumber (Cover n) = n
-nodeNumber (Range n t) = n
-nodeNumber (Step n t) = n
-nodeNumber (Enabling n t) = n
+abbrev pub refusalNumber : Condition → ℕ
+refusalNumber c = nameOf c .0
 
-unfoldable pub transitionNumber : Condition → ℕ
-transitionNumber Start = 255
-transitionNumber Entry = 255
-transitionNumber (Cover n) = 255
-transitionNumber (Range n t) = t
-transitionNumber (Step n t) = t
-transitionNumber (Enabling n t) = t
+abbrev pub nodeNumber : Condition → ℕ
+nodeNumber c = nameOf c .1
+
+abbrev pub transitionNumber : Condition → ℕ
+transitionNumber c = nameOf c .2

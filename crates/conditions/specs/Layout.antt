@@ -1,10 +1,11 @@
 -- The list of conditions by quotients and remainders, as the code finds the condition of a number. That it is the list is a law
 -- (proofs/Laws/Condition.antt).
-use mathlib.Core.Bool.{not, _&&_, cond}
+use mathlib.Core.Bool.{not, cond}
 use mathlib.Core.List.{List}
 use Prim.Native.Nat.{ℕ, _+_, _*_, _/_, _%_}
 use lib.Dec.{ltb, eqb}
 use Rattle.shapes.specs.Property.{propertyOf}
+use Rattle.shapes.specs.Edge.{doubleFrom}
 use Rattle.diagrams.specs.declared.Diagram.{Diagram}
 use Rattle.diagrams.specs.Diagram.{edgeOf}
 use Rattle.truths.specs.Search.{firstFailing}
@@ -23,7 +24,7 @@ pairOf n k = cond (eqb (k % 2) 0) (Range n (k / 2)) (Step n (k / 2))
 
 -- "the node's double transition": that of its first double edge, or one past the file's transitions where it has none
 unfoldable pub doubleEdge : List ℕ → Diagram → ℕ → ℕ
-doubleEdge file g n = firstFailing (λ e. not (edgeOf file g e .double && eqb (edgeOf file g e .from) n)) (g .edges)
+doubleEdge file g n = firstFailing (λ e. not (doubleFrom n (edgeOf file g e))) (g .edges)
 
 unfoldable pub doubleOf : List ℕ → Diagram → ℕ → ℕ
 doubleOf file g n = cond (ltb (doubleEdge file g n) (g .edges)) (edgeOf file g (doubleEdge file g n) .transition) (g .transitions)

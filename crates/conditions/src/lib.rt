@@ -1,6 +1,7 @@
 // The verification conditions of a diagram: how many there are, and the condition of a number.
 use diagrams::Diagram;
 use diagrams::edge_of;
+use shapes::double_from;
 use shapes::property_of;
 ghost use mathlib.Core.Path.{_≡_};
 ghost use Prim.Native.Nat.{_≤_, _<_};
@@ -64,10 +65,8 @@ pub fn double_of(file: &[u8], diagram: Diagram, node: usize) -> usize
     let mut e: usize = 0;
     while e < diagram.edges {
         let edge = edge_of(file, diagram, e);
-        if edge.double {
-            if edge.from == node {
-                return edge.transition;
-            }
+        if double_from(edge, node) {
+            return edge.transition;
         }
         e += 1;
     }

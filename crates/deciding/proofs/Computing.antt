@@ -16,9 +16,9 @@ unfoldable pub deciding : Unit {0}
 unfolding computing Number.countOf Number.stateOf Number.numberOf
     Search.firstFailingFrom Search.firstFailing Edges.carries Edges.isDouble
     Condition.each Condition.movesOf Condition.openingOf Condition.coveredOf Condition.conditionsOf Condition.totalOf Condition.conditionAt
-    Condition.refusalNumber Condition.nodeNumber Condition.transitionNumber
+    Condition.nameOf
     Truth.implies System.isEnabled Holding.someNode Holding.someTarget Holding.stepLeads Holding.conditionHolds
-    Verdict.stateCount Verdict.stateAt Verdict.stateNumber Verdict.breakingOf Verdict.isTrue Verdict.brokenOf
-    Verdict.brokenAt Verdict.testsOf Verdict.judgedOf Verdict.verdictBy Verdict.verdictOf Verdict.checkOf
+    Verdict.stateAt Verdict.stateNumber Verdict.breakingOf Verdict.isTrue Verdict.brokenOf
+    Verdict.brokenAt Verdict.testsOf Verdict.judgedOf Verdict.verdictOf Verdict.checkOf
     Decision.upToFailing Decision.testsInOrder Decision.testsMade
 deciding = tt

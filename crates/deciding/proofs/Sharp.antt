@@ -13,7 +13,7 @@ use lib.Dec.{lit≤}
 use lib.ListN.{set}
 use Rattle.diagrams.specs.declared.Diagram.{Diagram}
 use Rattle.shapes.specs.declared.Outline.{Outline}
-use Rattle.diagrams.specs.declared.Found.{Found}
+use Rattle.shapes.specs.declared.Reading.{Reading}
 use Rattle.diagrams.specs.Diagram.{foundOf, diagramOf, Loaded}
 use Rattle.diagrams.proofs.Laws.Diagram.{diagram-loaded}
 use Rattle.diagrams.proofs.Files.{A, B, constant, plain, true}
@@ -32,7 +32,7 @@ outline = record { vars = 1; transition = 5; transitions = 1; property = 13; nod
 abbrev diagram : List ℕ → Diagram
 diagram file = diagramOf file outline
 
-loaded : (file : List ℕ) → foundOf file ≡ Found.Diagram outline → Loaded file (diagram file)
+loaded : (file : List ℕ) → foundOf file ≡ Reading.Found outline → Loaded file (diagram file)
 loaded file e = diagram-loaded file outline e
 
 -- ---- refused

@@ -13,7 +13,7 @@ use Rattle.conditions.specs.Condition.{each, totalOf, conditionAt, Listed, refu
 use Rattle.conditions.specs.declared.Condition.{Condition}
 use Rattle.testing.specs.Holding.{conditionHolds}
 use Rattle.report.specs.declared.Verdict.{Verdict}
-use Rattle.verdicts.specs.Verdict.{stateCount, stateAt, stateNumber}
+use Rattle.verdicts.specs.Verdict.{stateAt, stateNumber}
 
 -- a condition is true at every state in the ranges: whatever values a state has
 abbrev pub Everywhere : List ℕ → Diagram → Condition → Type 0
@@ -45,7 +45,7 @@ testsInOrder total states = each (λ c. each (λ n. (c, n) ∷ []) states 0) tot
 unfoldable pub testsMade : List ℕ → Diagram → List (ℕ × ℕ)
 testsMade file g =
     upToFailing (λ (test : ℕ × ℕ). conditionHolds file g (conditionAt file g (test .0)) (stateAt g (test .1)))
-    (testsInOrder (totalOf file g) (stateCount g))
+    (testsInOrder (totalOf file g) (g .states))
 
 -- ---- the verdict
 -- accepted exactly when every condition is true at every state; otherwise the first untrue one is named

@@ -22,6 +22,7 @@ use Rattle.ranges.specs.Range
 use Rattle.states.specs.Number
 use Rattle.evaluating.specs.Transition
 use Rattle.shapes.specs.Property
+use Rattle.shapes.specs.Edge as Shape
 use Rattle.diagrams.specs.Diagram
 use Rattle.diagrams.specs.Truth
 use Rattle.diagrams.specs.System
@@ -30,24 +31,24 @@ use Rattle.diagrams.specs.System
 unfoldable pub computing : Unit {0}
 unfolding flatten Bytes.signed16 Bytes.lowByte Bytes.highByte Ends.minZ Ends.maxZ Ends.around Ends.overEnds Ends.inBounds
     Radix.at Radix.offsetOf Tests.eqZ
-    Record.kindIs Record.zerosOf Record.sameBytes Kind.within Kind.formOf Kind.signatureOf
+    Record.kindIs Record.zerosOf Record.sameBytes Kind.within Kind.signatureOf
     Walk.expressionFields Walk.inSequence Walk.operandsOf Walk.recordThen Walk.walkOf Walk.spans Walk.span
     Section.variableFields Section.transitionFields Section.assignmentFields Section.propertyFields Section.edgeFields Section.itemsOf
     Section.variablesOf Section.assignmentsOf Section.transitionOf Section.transitionsOf Section.expressionsOf Section.phasesOr
     Section.nodesOf Section.repeatedOf Section.edgesOf Table.tabulate Table.tableOf
-    Outline.edgesParsed Outline.nodesParsed Outline.propertyParsed Outline.transitionsParsed Outline.startParsed Outline.parsedOf
+    Outline.nodesParsed Outline.propertyParsed Outline.transitionsParsed Outline.startParsed Outline.parsedOf
     Search.any Walk.refuseFirst Number.sizeOf States.sizeAt States.statesOf
     Interval.leafOf Interval.combine Interval.joinOf Interval.ownOf Interval.byOperands Interval.analysisOf Interval.analysedFrom Interval.intervalsOf
     Property.claimOf Property.propertyOf Section.phasesFit Section.edgeAt Place.placesOf
     Edge.transitionAt Edge.justOf Edge.conflictOf Edge.leadsOf Edge.fallsOf Edge.doubleRuleOf Edge.ruleOf Edge.rulesOf
-    Edge.doubleFrom Edge.doubledOf Edge.doublesOf
-    Read.stagesRead Read.parsedRead Read.readOf
+    Shape.doubleFrom Edge.doubledOf Edge.doublesOf
+    Read.stagesRead Read.readOf
     Expression.firstOperand Expression.secondOperand Expression.indicatorOf Expression.connectOf Expression.compareOf
     Expression.numberBy Expression.truthBy Expression.number Expression.truth Expression.holdsOf Expression.behind
     Range.endsOf
     Transition.assignmentAt Transition.assignmentsFrom Transition.inRangeOf Transition.allInRange Transition.assigned
-    Transition.guardOf Transition.assignmentList Transition.enabledOf Transition.successorOf
-    Diagram.foundBy Diagram.foundOf Diagram.assertionsOf Diagram.diagramOf Diagram.edgeOf
+    Transition.assignmentList
+    Diagram.foundOf Diagram.assertionsOf Diagram.diagramOf Diagram.edgeOf
     Truth.startHolds Truth.nodeHolds Truth.claimedAt Truth.pHolds Truth.qNumber Truth.qAt Truth.qHolds
     System.justOf System.guardHolds System.valuesFit System.nextState
 computing = tt

@@ -9,21 +9,16 @@ use Rattle.shapes.specs.declared.Outline.{Outline}
 use Rattle.records.specs.Place.{placesOf}
 use Rattle.truths.specs.Table.{tableOf}
 use Rattle.sections.specs.Section.{claimAt, propertyAt, edgeAt, transitionOf, nodeOf}
-use Rattle.reading.specs.declared.Reading.{Reading}
+use Rattle.shapes.specs.declared.Reading.{Reading}
 use Rattle.reading.specs.Read.{readOf}
 use Rattle.states.specs.State.{Within}
 use Rattle.ranges.specs.Range.{lowsOf, highsOf}
 use Rattle.states.specs.Number.{countOf}
 use Rattle.diagrams.specs.declared.Diagram.{Diagram}
-use Rattle.diagrams.specs.declared.Found.{Found}
 
 -- what reading finds: the parts of a file, or the first refusal from 2 to 10
-unfoldable pub foundBy : Reading → Found
-foundBy (Reading.Found o) = Found.Diagram o
-foundBy (Reading.Refused number place) = Found.Refused number place
-
-unfoldable pub foundOf : List ℕ → Found
-foundOf file = foundBy (readOf file)
+unfoldable pub foundOf : List ℕ → Reading
+foundOf file = readOf file
 
 -- "06 node, then its assertion": behind the records of the first n nodes
 unfoldable pub assertionsOf : List ℕ → ℕ → List ℕ
@@ -51,7 +46,7 @@ diagramOf file o =
 -- g is the diagram of the file, in which reading found its parts
 pub record Loaded (file : List ℕ) (g : Diagram) : Type 0 where
   pub outline : Outline
-  pub found : foundOf file ≡ Found.Diagram outline
+  pub found : foundOf file ≡ Reading.Found outline
   pub is : g ≡ diagramOf file outline
 
 -- "A file is readable if no refusal that the check itself tries after 1 and before 11 meets it."

@@ -6,10 +6,10 @@ use Prim.Native.Nat.{ℕ, _+_, _*_, _<_, _≤_}
 use lib.ListN.{length, getD}
 use lib.IntN.{ℤ}
 use Rattle.shapes.specs.Property.{propertyOf}
-use Rattle.states.specs.State.{Ranges, Idle}
+use Rattle.states.specs.Ranges.{Ranges, Idle}
 use Rattle.states.specs.Number.{countOf}
-use Rattle.expressions.specs.Expression.{TruthFits}
-use Rattle.evaluating.specs.Transition.{TransitionFits}
+use Rattle.expressions.specs.Fits.{TruthFits}
+use Rattle.evaluating.specs.Fits.{TransitionFits}
 use Rattle.diagrams.specs.declared.Diagram.{Diagram}
 use Rattle.diagrams.specs.Diagram.{State, edgeOf}
 use Rattle.diagrams.specs.Truth.{claimedAt, qAt}

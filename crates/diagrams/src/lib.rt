@@ -1,7 +1,6 @@
 // The diagram of a file, with its system, as judging speaks of them. What doesn't depend on a state is looked up once.
 use ranges::highs;
 use ranges::lows;
-use reading::Reading;
 use reading::read;
 use records::walk::Walked;
 use records::walk::truths;
@@ -12,12 +11,13 @@ use sections::transition_places;
 use shapes::Claim;
 use shapes::Edge;
 use shapes::Outline;
+use shapes::Reading;
 use shapes::property_of;
 use states::count;
 ghost use mathlib.Core.Path.{_≡_};
 ghost use Prim.Native.Nat.{ℕ, _≤_, _<_};
 ghost use lib.ListN.{getD};
-ghost use Rattle.diagrams.specs.declared.Found.{Found};
+ghost use Rattle.shapes.specs.declared.Reading.{Reading};
 ghost use Rattle.diagrams.specs.Diagram.{foundOf, assertionsOf, diagramOf, Loaded, edgeOf};
 ghost use Rattle.diagrams.specs.Truth.{claimedAt, qNumber, qAt};
 
@@ -39,21 +39,11 @@ pub struct Diagram {
     pub edge: usize,
 }
 
-// Where the parts of a file stand, or the refusal that meets it, with its number and its place.
-pub enum Found {
-    Diagram(Outline),
-    Refused(u8, usize),
-}
-
 // Reads a file.
-pub fn find(file: &[u8]) -> Found
+pub fn find(file: &[u8]) -> Reading
     ensures { λ r. ⌜ r ≡ foundOf (now (file .entry)) ⌝ }
 {
-    let found = read(file);
-    match found {
-        Reading::Found(outline) => Found::Diagram(outline),
-        Reading::Refused(number, place) => Found::Refused(number, place),
-    }
+    read(file)
 }
 
 // Where the assertions of the first n nodes stand: behind the nodes' records.
@@ -73,7 +63,7 @@ fn assertions(nodes: [usize; 32], n: usize) -> [usize; 32]
 
 // The diagram of a file that was found to have one.
 pub fn diagram_of(file: &[u8], outline: Outline) -> Diagram
-    requires { ⌜ foundOf (now file) ≡ Found.Diagram outline ⌝ }
+    requires { ⌜ foundOf (now file) ≡ Reading.Found outline ⌝ }
     ensures { λ r. ⌜ r ≡ diagramOf (now (file .entry)) outline ⌝ }
 {
     let vars = outline.vars;

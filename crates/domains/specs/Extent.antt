@@ -6,8 +6,7 @@ use lib.IntN.{ℤ, pos, _-ℤ_}
 use lib.Signed.{leZ, ltZ}
 use Rattle.integers.specs.declared.Interval.{Interval}
 use Rattle.integers.specs.Interval.{overEnds, bounds}
-use Rattle.intervals.specs.Interval.{interval}
-use Rattle.intervals.specs.Interval.{combine as combineOf}
+use Rattle.intervals.specs.Interval.{interval, combine as combineOf}
 use Rattle.domains.specs.declared.seen.Seen.{Seen}
 use Rattle.domains.specs.declared.seen.Seen.the-variants.{Yes, No, Unsure}
 use Rattle.domains.specs.declared.extents.Extent.{Extent}

@@ -6,7 +6,7 @@ use integers::Interval;
 use intervals::combined;
 ghost use mathlib.Core.Path.{_≡_};
 ghost use lib.IntN.{_-ℤ_};
-ghost use Rattle.integers.specs.Interval.{Bounded};
+ghost use Rattle.integers.specs.Inside.{Bounded};
 ghost use Rattle.domains.specs.Extent.{cutOf, extentOf, widerOf, combineIn, indicatorIn, atMostIn, compareIn};
 
 pub struct Extent {

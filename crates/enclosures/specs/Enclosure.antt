@@ -3,10 +3,10 @@ use mathlib.Core.List.{List}
 use Prim.Native.Nat.{ℕ, zero, suc}
 use lib.ListN.{getD}
 use lib.IntN.{pos}
-use Rattle.records.specs.declared.kinds.Form.{Form}
-use Rattle.records.specs.declared.kinds.Form.the-variants.{Constant, Variable, Arithmetic, Indicator, Literal, Negation, Connective, Comparison, Unfit}
+use Rattle.records.specs.Form.{Form}
+use Rattle.records.specs.Form.Form.{Constant, Variable, Arithmetic, Indicator, Literal, Negation, Connective, Comparison, Unfit}
 use Rattle.records.specs.Record.{kindAt, fieldA, valueB}
-use Rattle.records.specs.Kind.{formAt}
+use Rattle.records.specs.Form.{formAt}
 use Rattle.expressions.specs.Expression.{partAt, firstOperand, secondOperand}
 use Rattle.boxes.specs.declared.Box.{Box}
 use Rattle.domains.specs.declared.seen.Seen.{Seen}

@@ -16,7 +16,9 @@ ghost use mathlib.Core.Path.{_≡_};
 ghost use Prim.Native.Nat.{_+_, _*_, _≤_};
 ghost use lib.ListN.{length, drop};
 ghost use Rattle.records.specs.Kind.{number as numberSort, truth as truthSort};
-ghost use Rattle.expressions.specs.Expression.{partAt, Fits, Spans};
+ghost use Rattle.expressions.specs.Expression.{partAt};
+ghost use Rattle.expressions.specs.Spans.{Spans};
+ghost use Rattle.expressions.specs.Fits.{Fits};
 ghost use Rattle.enclosures.specs.Enclosure.{numberIn, truthIn, seenOf};
 
 // The number expression that the part begins with, with `levels` nesting levels left. The part begins at record `at` of the file that `spans` has the

@@ -18,12 +18,16 @@ use Rattle.reading.proofs.Files
 use Rattle.reading.proofs.Files.{agree, range, transition, assignment, constant, variable, plain}
 use Rattle.evaluating.specs.declared.Stepped.{Stepped}
 use Rattle.expressions.specs.Expression
+use Rattle.expressions.specs.Spans
 use Rattle.ranges.specs.Range
 use Rattle.ranges.specs.Range.{lowsOf, highsOf}
 use Rattle.states.specs.Number
-use Rattle.states.specs.Number.{countOf, stateOf, numberOf, advanceOf}
+use Rattle.states.specs.Advance
+use Rattle.states.specs.Number.{countOf, stateOf, numberOf}
+use Rattle.states.specs.Advance.{advanceOf}
 use Rattle.evaluating.specs.Transition
-use Rattle.evaluating.specs.Transition.{successorOf, stepOf}
+use Rattle.evaluating.specs.Step
+use Rattle.evaluating.specs.Step.{successorOf, stepOf}
 
 -- ---- tables
 -- f gives the answer at each row of a table of questions and answers
@@ -137,7 +141,7 @@ numbers =
     []
 
 numbers-hold : Answers (λ part. Expression.number 16 part here) numbers
-unfolding Bytes.signed16 Kind.within Kind.formOf Kind.signatureOf Walk.spans Walk.span Interval.combine
+unfolding Bytes.signed16 Kind.within Kind.signatureOf Walk.spans Walk.span Interval.combine
     Expression.firstOperand Expression.secondOperand Expression.indicatorOf Expression.compareOf
     Expression.numberBy Expression.truthBy Expression.number
 numbers-hold = answers (λ part. Expression.number 16 part here) numbers refl
@@ -194,7 +198,7 @@ truths =
     []
 
 truths-hold : Answers (λ part. Expression.truth 16 part here) truths
-unfolding Bytes.signed16 Tests.eqZ Kind.within Kind.formOf Kind.signatureOf Walk.spans Walk.span Interval.combine
+unfolding Bytes.signed16 Tests.eqZ Kind.within Kind.signatureOf Walk.spans Walk.span Interval.combine
     Expression.firstOperand Expression.secondOperand Expression.indicatorOf Expression.connectOf Expression.compareOf
     Expression.numberBy Expression.truthBy Expression.truth
 truths-hold = answers (λ part. Expression.truth 16 part here) truths refl
@@ -248,7 +252,7 @@ abbrev holding : List ℕ × ℕ × List ℤ → Bool
 holding (file, at, state) = Expression.holdsOf file at state
 
 assertions-hold : Answers holding assertions
-unfolding flatten Bytes.signed16 Tests.eqZ Kind.within Kind.formOf Kind.signatureOf Walk.spans Walk.span
+unfolding flatten Bytes.signed16 Tests.eqZ Kind.within Kind.signatureOf Walk.spans Walk.span
     Expression.firstOperand Expression.secondOperand Expression.connectOf Expression.compareOf
     Expression.numberBy Expression.truthBy Expression.truth Expression.holdsOf
 assertions-hold = answers holding assertions refl
@@ -270,10 +274,10 @@ lengths =
     []
 
 abbrev lengthsOf : List ℕ → List ℕ
-lengthsOf file = take (length file / 8 + 1) (Expression.spansOf file)
+lengthsOf file = take (length file / 8 + 1) (Spans.spansOf file)
 
 lengths-hold : Answers lengthsOf lengths
-unfolding flatten Kind.within Kind.formOf Kind.signatureOf Expression.spanBy Expression.withSpan Expression.spansFrom Expression.spansOf
+unfolding flatten Kind.within Kind.signatureOf Spans.spanBy Spans.withSpan Spans.spansFrom Spans.spansOf
 lengths-hold = answers lengthsOf lengths refl
 
 -- ---- ranges
@@ -331,7 +335,7 @@ stateRow (file, vars, n) =
 
 states-hold : Answers stateRow states
 unfolding flatten Bytes.signed16 Radix.at Radix.offsetOf Table.tabulate Table.tableOf Range.endsOf
-    Number.sizeOf Number.countOf Number.stateOf Number.numberOf Number.lastOf Number.advanceOf
+    Number.sizeOf Number.countOf Number.stateOf Number.numberOf Advance.lastOf Advance.advanceOf
 states-hold = answers stateRow states refl
 
 -- ---- transitions
@@ -373,9 +377,9 @@ abbrev stepsOf : List ℕ × ℕ × ℕ × List ℤ → Stepped × List ℤ
 stepsOf (file, vars, at, state) = (stepOf (lowsOf file vars) (highsOf file vars) file at state, successorOf file at state)
 
 steps-hold : Answers stepsOf steps
-unfolding flatten Bytes.signed16 Record.kindIs Kind.within Kind.formOf Kind.signatureOf Walk.spans Walk.span Table.tabulate Table.tableOf Interval.combine
+unfolding flatten Bytes.signed16 Record.kindIs Kind.within Kind.signatureOf Walk.spans Walk.span Table.tabulate Table.tableOf Interval.combine
     Expression.firstOperand Expression.secondOperand Expression.compareOf
     Expression.numberBy Expression.truthBy Expression.number Expression.truth Range.endsOf
     Expression.behind Transition.assignmentAt Transition.assignmentsFrom Transition.inRangeOf Transition.allInRange Transition.assigned
-    Transition.guardOf Transition.assignmentList Transition.enabledOf Transition.successorOf Transition.stepOf
+    Step.guardOf Transition.assignmentList Step.enabledOf Step.successorOf Step.stepOf
 steps-hold = answers stepsOf steps refl

@@ -1,2 +1,4 @@
 -- What a transition does.
 pub mod Transition
+pub mod Fits
+pub mod Step

@@ -10,8 +10,12 @@ ghost use mathlib.Core.Bool.{true};
 ghost use Prim.Native.Nat.{_+_, _/_, _<_};
 ghost use lib.ListN.{length, set};
 ghost use Rattle.records.specs.Kind.{number as numberSort};
-ghost use Rattle.expressions.specs.Expression.{partAt, Fits, Spans};
-ghost use Rattle.evaluating.specs.Transition.{assignmentAt, assignmentsFrom, inRangeOf, assignOf, stepOf, AssignmentsFit, TransitionFits};
+ghost use Rattle.expressions.specs.Expression.{partAt};
+ghost use Rattle.expressions.specs.Spans.{Spans};
+ghost use Rattle.expressions.specs.Fits.{Fits};
+ghost use Rattle.evaluating.specs.Transition.{assignmentAt, assignmentsFrom, inRangeOf};
+ghost use Rattle.evaluating.specs.Fits.{AssignmentsFit, TransitionFits};
+ghost use Rattle.evaluating.specs.Step.{assignOf, stepOf};
 
 // A variable, the value that it is assigned, and the record behind the assignment.
 pub struct Assignment {

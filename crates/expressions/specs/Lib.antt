@@ -1,2 +1,4 @@
 -- What expressions are worth in a state.
 pub mod Expression
+pub mod Spans
+pub mod Fits

@@ -8,7 +8,9 @@ ghost use Prim.Native.Nat.{_+_, _*_, _≤_};
 ghost use lib.ListN.{length, drop};
 ghost use Rattle.records.specs.Record.{valueB};
 ghost use Rattle.records.specs.Kind.{number as numberSort, truth as truthSort};
-ghost use Rattle.expressions.specs.Expression.{partAt, indicatorOf, compareOf, number, truth, holdsOf, Fits, Spans};
+ghost use Rattle.expressions.specs.Expression.{partAt, indicatorOf, compareOf, number, truth, holdsOf};
+ghost use Rattle.expressions.specs.Spans.{Spans};
+ghost use Rattle.expressions.specs.Fits.{Fits};
 
 // The part behind so many records.
 pub fn after(part: &[u8], records: usize) -> &[u8]

@@ -3,7 +3,7 @@ use records::kinds::signature_at;
 ghost use mathlib.Core.Path.{_≡_};
 ghost use Prim.Native.Nat.{_+_, _≤_};
 ghost use lib.ListN.{length, getD};
-ghost use Rattle.expressions.specs.Expression.{spansOf};
+ghost use Rattle.expressions.specs.Spans.{spansOf};
 
 // The record behind the operand that begins at `at`, by its entry in the table; `at` itself where the table ends before it.
 fn end_of(spans: &[u16], at: usize) -> usize

@@ -1,13 +1,8 @@
 -- Intervals of integers. The interval of an operation's result runs from the least to the greatest result over the operands' ends.
 use mathlib.Core.Bool.{Bool, cond, _&&_}
 use lib.IntN.{ℤ, pos, negsuc}
-use lib.Signed.{leZ, _≤ℤ_}
+use lib.Signed.{leZ}
 use Rattle.integers.specs.declared.Interval.{Interval}
-
--- x lies in i
-pub record In (x : ℤ) (i : Interval) : Type 0 where
-  pub above : i .low ≤ℤ x
-  pub below : x ≤ℤ i .high
 
 unfoldable pub minZ : ℤ → ℤ → ℤ
 minZ x y = cond (leZ x y) x y
@@ -34,8 +29,3 @@ bounds = record { low = negsuc 999999; high = pos 1000000 }
 -- "It must lie in -1,000,000..1,000,000": both ends do
 unfoldable pub inBounds : Interval → Bool
 inBounds i = between (bounds .low) (bounds .high) (i .low) && between (bounds .low) (bounds .high) (i .high)
-
--- what the test says
-pub record Bounded (i : Interval) : Type 0 where
-  pub low : In (i .low) bounds
-  pub high : In (i .high) bounds

@@ -1,6 +1,7 @@
 -- The definitions, by topic.
 pub mod Bytes
 pub mod Interval
+pub mod Inside
 pub mod Floor
 pub mod Radix
 pub mod Tests

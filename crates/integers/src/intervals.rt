@@ -3,7 +3,8 @@ use crate::Interval;
 use crate::state::between;
 ghost use mathlib.Core.Path.{_≡_};
 ghost use lib.IntN.{_+ℤ_, _-ℤ_, _*ℤ_};
-ghost use Rattle.integers.specs.Interval.{minZ, maxZ, around, overEnds, Bounded, inBounds};
+ghost use Rattle.integers.specs.Interval.{minZ, maxZ, around, overEnds, inBounds};
+ghost use Rattle.integers.specs.Inside.{Bounded};
 
 fn lesser(x: i64, y: i64) -> i64
     ensures { λ r. ⌜ r ≡ minZ x y ⌝ }

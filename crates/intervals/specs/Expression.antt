@@ -4,10 +4,11 @@ use mathlib.Core.List.{List}
 use Prim.Native.Nat.{ℕ, _+_, _/_, _<_}
 use lib.ListN.{length}
 use Rattle.integers.specs.declared.Interval.{Interval}
-use Rattle.records.specs.declared.kinds.Form.the-variants.{Variable}
+use Rattle.records.specs.Form.Form.{Variable}
 use Rattle.records.specs.declared.walk.Walked.{Walked}
 use Rattle.records.specs.Record.{kindAt, fieldA}
-use Rattle.records.specs.Kind.{formAt, signatureAt}
+use Rattle.records.specs.Kind.{signatureAt}
+use Rattle.records.specs.Form.{formAt}
 use Rattle.records.specs.Walk.{walkOf}
 use Rattle.intervals.specs.declared.Analysis.{Analysis}
 use Rattle.intervals.specs.Interval.{unit, leafOf, joinOf, analysisOf}
@@ -20,11 +21,11 @@ pub record Expression (file : List ℕ) (vars levels want at end : ℕ) (i : Int
 
 -- its operands, by how many there are, one level further in, and its interval by theirs
 pub data Operands (file : List ℕ) (vars levels at end : ℕ) : Interval → Type 0 where
-  none : signatureAt file at .operands ≡ 0 → end ≡ at + 1 → Operands file vars levels at end (leafOf file at (formAt file at))
+  none : signatureAt file at .operands ≡ 0 → end ≡ at + 1 → Operands file vars levels at end (leafOf file at)
   one : {j : Interval} → signatureAt file at .operands ≡ 1 → Expression file vars levels (signatureAt file at .first) (at + 1) end j
       → Operands file vars levels at end unit
   two : {mid : ℕ} {j k : Interval} → signatureAt file at .operands ≡ 2 → Expression file vars levels (signatureAt file at .first) (at + 1) mid j
-      → Expression file vars levels (signatureAt file at .second) mid end k → Operands file vars levels at end (joinOf (kindAt file at) (formAt file at) j k)
+      → Expression file vars levels (signatureAt file at .second) mid end k → Operands file vars levels at end (joinOf (kindAt file at) j k)
 
 -- its own record, which if it is a variable is one of the file's, and its operands
 pub record Opened (file : List ℕ) (vars levels want at end : ℕ) (i : Interval) : Type 0 where

@@ -1,19 +1,18 @@
 -- The interval of a number expression, and refusal 8: "An interval goes out of bounds, operands judged first, left before right .. it is the record whose
 -- own interval goes out, expressions taken in file order."
 use Prim.Native.Nat.{ℕ, zero, suc, _+_, _/_}
-use mathlib.Core.Bool.{cond}
+use mathlib.Core.Bool.{cond, _&&_}
 use mathlib.Core.List.{List}
 use lib.ListN.{length}
-use lib.Dec.{ltb, eqb}
+use lib.Dec.{ltb, leb, eqb}
 use lib.IntN.{ℤ, pos, _+ℤ_, _-ℤ_, _*ℤ_}
 use Rattle.integers.specs.declared.Interval.{Interval}
 use Rattle.integers.specs.Interval.{overEnds, inBounds}
-use Rattle.records.specs.declared.kinds.Form.{Form}
-use Rattle.records.specs.declared.kinds.Form.the-variants.{Constant, Variable, Arithmetic, Indicator, Literal, Negation, Connective, Comparison, Unfit}
 use Rattle.records.specs.declared.walk.Walked.{Walked}
 use Rattle.records.specs.Record.{kindAt, fieldA, valueB, valueC}
-use Rattle.records.specs.Kind.{none, formAt, signatureAt}
+use Rattle.records.specs.Kind.{none, signatureAt}
 use Rattle.intervals.specs.declared.Analysis.{Analysis}
+use Rattle.intervals.specs.declared.Analysis.the-variants.{Within, Out}
 
 abbrev pub interval : ℤ → ℤ → Interval
 interval l h = record { low = l; high = h }
@@ -23,64 +22,48 @@ abbrev pub unit : Interval
 unit = interval (pos 0) (pos 1)
 
 -- the interval of a record with no operand: "a constant's own value, a variable's range"
-unfoldable pub leafOf : List ℕ → ℕ → Form → Interval
-leafOf file at Constant = interval (valueB file at) (valueB file at)
-leafOf file at Variable = interval (valueB file (fieldA file at)) (valueC file (fieldA file at))
-leafOf file at Arithmetic = unit
-leafOf file at Indicator = unit
-leafOf file at Literal = unit
-leafOf file at Negation = unit
-leafOf file at Connective = unit
-leafOf file at Comparison = unit
-leafOf file at Unfit = unit
+unfoldable pub leafOf : List ℕ → ℕ → Interval
+leafOf file at =
+    cond (eqb (kindAt file at) 0x10) (interval (valueB file at) (valueB file at))
+    (cond (eqb (kindAt file at) 0x11) (interval (valueB file (fieldA file at)) (valueC file (fieldA file at))) unit)
 
 -- 12 sum, 13 difference, 14 product
 unfoldable pub combine : ℕ → ℤ → ℤ → ℤ
 combine kind = cond (eqb kind 0x12) _+ℤ_ (cond (eqb kind 0x13) _-ℤ_ _*ℤ_)
 
 -- the interval of a record with two operands: "sum, difference and product take the least and greatest result over the operands' ends"
-unfoldable pub joinOf : ℕ → Form → Interval → Interval → Interval
-joinOf kind Constant i j = unit
-joinOf kind Variable i j = unit
-joinOf kind Arithmetic i j = overEnds (combine kind) i j
-joinOf kind Indicator i j = unit
-joinOf kind Literal i j = unit
-joinOf kind Negation i j = unit
-joinOf kind Connective i j = unit
-joinOf kind Comparison i j = unit
-joinOf kind Unfit i j = unit
+unfoldable pub joinOf : ℕ → Interval → Interval → Interval
+joinOf kind i j = cond (leb 0x12 kind && leb kind 0x14) (overEnds (combine kind) i j) unit
 
 -- a record's own interval, once its operands are judged
 unfoldable pub ownOf : Interval → ℕ → ℕ → Analysis
-ownOf i end at = cond (inBounds i) (Analysis.Within i end) (Analysis.Out at)
+ownOf i end at = cond (inBounds i) (Within i end) (Out at)
 
-abbrev pub andInterval : Analysis → (Interval → ℕ → Analysis) → Analysis
-andInterval (Analysis.Within i end) next = next i end
-andInterval (Analysis.Out place) next = Analysis.Out place
+-- what follows from an analysis: `out` where a record goes out of bounds, else `next`
+abbrev pub andInterval : {A : Type 0} → (ℕ → A) → Analysis → (Interval → ℕ → A) → A
+andInterval out (Analysis.Within i end) next = next i end
+andInterval out (Analysis.Out place) next = out place
 
 -- a record at `at` with n operands, each judged by `operand`
 unfoldable pub byOperands : List ℕ → ℕ → (ℕ → Analysis) → ℕ → Analysis
-byOperands file at operand zero = ownOf (leafOf file at (formAt file at)) (at + 1) at
-byOperands file at operand (suc zero) = andInterval (operand (at + 1)) λ i end. ownOf unit end at
+byOperands file at operand zero = ownOf (leafOf file at) (at + 1) at
+byOperands file at operand (suc zero) = andInterval Out (operand (at + 1)) λ i end. ownOf unit end at
 byOperands file at operand (suc (suc n)) =
-    andInterval (operand (at + 1)) λ i next. andInterval (operand next) λ j end. ownOf (joinOf (kindAt file at) (formAt file at) i j) end at
+    andInterval Out (operand (at + 1)) λ i next. andInterval Out (operand next) λ j end. ownOf (joinOf (kindAt file at) i j) end at
 
 -- the expression at record `at`, which nests within `levels`
 unfoldable pub analysisOf : List ℕ → ℕ → ℕ → Analysis
-analysisOf file zero at = Analysis.Out at
+analysisOf file zero at = Out at
 analysisOf file (suc levels) at =
-    cond (ltb at (length file / 8)) (byOperands file at (analysisOf file levels) (signatureAt file at .operands)) (Analysis.Out at)
+    cond (ltb at (length file / 8)) (byOperands file at (analysisOf file levels) (signatureAt file at .operands)) (Out at)
 
 -- every expression, in file order, from record `at` on, with at most `left` records left: a record that begins none is passed over
-abbrev pub andExpression : Analysis → (ℕ → Walked) → Walked
-andExpression (Analysis.Within i end) next = next end
-andExpression (Analysis.Out place) next = Walked.Refused 8 place
-
 unfoldable pub analysedFrom : List ℕ → ℕ → ℕ → Walked
 analysedFrom file zero at = Walked.End at
 analysedFrom file (suc left) at =
     cond (ltb at (length file / 8))
-    (cond (eqb (signatureAt file at .sort) none) (analysedFrom file left (at + 1)) (andExpression (analysisOf file 16 at) (analysedFrom file left)))
+    (cond (eqb (signatureAt file at .sort) none) (analysedFrom file left (at + 1))
+    (andInterval (Walked.Refused 8) (analysisOf file 16 at) λ i. analysedFrom file left))
     (Walked.End at)
 
 unfoldable pub intervalsOf : List ℕ → Walked

@@ -1,8 +1,6 @@
 // The interval of every number expression, from the variables' ranges: refusal 8.
 use integers::Interval;
-use records::kinds::Form;
 use records::kinds::NONE;
-use records::kinds::form_of;
 use records::kinds::signature_at;
 use records::kinds::signature_of;
 use records::walk::Walked;
@@ -10,7 +8,8 @@ use records::wide_value_at;
 ghost use mathlib.Core.Path.{_≡_};
 ghost use Prim.Native.Nat.{_+_, _*_, _≤_};
 ghost use lib.ListN.{length};
-ghost use Rattle.integers.specs.Interval.{Bounded, overEnds};
+ghost use Rattle.integers.specs.Interval.{overEnds};
+ghost use Rattle.integers.specs.Inside.{Bounded};
 ghost use Rattle.intervals.specs.Interval.{leafOf, combine, joinOf, ownOf, analysisOf, intervalsOf};
 
 // The interval of an expression and the record behind it, or the record whose own interval goes out of bounds.
@@ -20,19 +19,19 @@ pub enum Analysis {
 }
 
 // The interval of a record with no operand.
-fn leaf(file: &[u8], at: usize, form: Form) -> Interval
+fn leaf(file: &[u8], at: usize) -> Interval
     requires { ⌜ 8 * at + 8 ≤ length (now file) ⌝ }
-    ensures { λ r. ⌜ r ≡ leafOf (now (file .entry)) at form ⌝ }
+    ensures { λ r. ⌜ r ≡ leafOf (now (file .entry)) at ⌝ }
 {
-    match form {
-        Form::Constant => {
+    match file[8 * at] {
+        0x10 => {
             let value = wide_value_at(file, 8 * at + 2);
             Interval {
                 low: value,
                 high: value,
             }
         }
-        Form::Variable => {
+        0x11 => {
             let variable = 8 * (file[8 * at + 1] as usize);
             let low = wide_value_at(file, variable + 2);
             let high = wide_value_at(file, variable + 4);
@@ -58,13 +57,13 @@ pub fn combined(kind: u8, i: Interval, j: Interval) -> Interval
 }
 
 // The interval of a record with two operands.
-fn join(kind: u8, form: Form, i: Interval, j: Interval) -> Interval
+fn join(kind: u8, i: Interval, j: Interval) -> Interval
     requires left { ⌜ Bounded i ⌝ }
     requires right { ⌜ Bounded j ⌝ }
-    ensures { λ r. ⌜ r ≡ joinOf kind form i j ⌝ }
+    ensures { λ r. ⌜ r ≡ joinOf kind i j ⌝ }
 {
-    match form {
-        Form::Arithmetic => combined(kind, i, j),
+    match kind {
+        0x12..=0x14 => combined(kind, i, j),
         _ => Interval { low: 0, high: 1 },
     }
 }
@@ -90,10 +89,9 @@ fn analyse(file: &[u8], levels: usize, at: usize) -> Analysis
         return Analysis::Out(at);
     }
     let kind = file[8 * at];
-    let form = form_of(kind);
-    let operands = signature_of(form).operands;
+    let operands = signature_of(kind).operands;
     if operands == 0 {
-        return own(leaf(file, at, form), at + 1, at);
+        return own(leaf(file, at), at + 1, at);
     }
     let left = analyse(file, levels - 1, at + 1);
     match left {
@@ -103,7 +101,7 @@ fn analyse(file: &[u8], levels: usize, at: usize) -> Analysis
             }
             let right = analyse(file, levels - 1, next);
             match right {
-                Analysis::Within(j, end) => own(join(kind, form, i, j), end, at),
+                Analysis::Within(j, end) => own(join(kind, i, j), end, at),
                 Analysis::Out(place) => Analysis::Out(place),
             }
         }

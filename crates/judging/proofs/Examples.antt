@@ -6,7 +6,7 @@ use mathlib.Core.Path.{_≡_, refl}
 use mathlib.Core.List.{List, [], _∷_, _++_, map, flatten, List·Memᴰ}
 use Prim.Native.Nat.{ℕ}
 use lib.ListN.{length, take, drop, set, replicate}
-use Rattle.diagrams.specs.declared.Found.{Found}
+use Rattle.shapes.specs.declared.Reading.{Reading}
 use Rattle.diagrams.specs.Diagram.{foundOf, diagramOf}
 use Rattle.diagrams.proofs.Files.{agree, bytes, range, single, constant, variable, plain, true, A, B, C, D, E, F, G, H, I, J}
 use Rattle.conditions.specs.Condition.{conditionsOf}
@@ -76,9 +76,9 @@ abbrev table : List Row
 table = marked ++ broken
 
 -- ---- lists of conditions
-abbrev listed : List ℕ → Found → List Condition
-listed file (Found.Diagram o) = conditionsOf file (diagramOf file o)
-listed file (Found.Refused number place) = []
+abbrev listed : List ℕ → Reading → List Condition
+listed file (Reading.Found o) = conditionsOf file (diagramOf file o)
+listed file (Reading.Refused number place) = []
 
 abbrev Listing : Type 0
 Listing = List (List ℕ) × List Condition
@@ -122,7 +122,7 @@ singles =
 -- ---- what antt computes
 -- `unfolding reporting` unfolds all that stands here
 unfoldable pub reporting : Unit {0}
-unfolding deciding Verdict.singleJudged Verdict.singleBy Verdict.singleOf Report.valueBytes Report.reportBytes Report.reportOf
+unfolding deciding Verdict.singleJudged Verdict.singleOf Report.valueBytes Report.reportBytes Report.reportOf
 reporting = tt
 
 -- the columns of each table

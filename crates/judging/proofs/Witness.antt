@@ -17,7 +17,7 @@ use lib.IntN.{ℤ}
 use Rattle.diagrams.specs.declared.Diagram.{Diagram}
 use Rattle.shapes.specs.declared.Claim.{Claim}
 use Rattle.shapes.specs.declared.Outline.{Outline}
-use Rattle.diagrams.specs.declared.Found.{Found}
+use Rattle.shapes.specs.declared.Reading.{Reading}
 use Rattle.diagrams.specs.Diagram.{foundOf, diagramOf, State}
 use Rattle.diagrams.specs.Truth.{startHolds, pHolds, qHolds}
 use Rattle.verdicts.specs.Verdict.{checkOf}
@@ -119,7 +119,7 @@ module _ (file : List ℕ) (g : Diagram) (c : Counter file g) where
 -- ---- the theorems
 -- the file is accepted, has this outline, and claims this
 abbrev Accepted : List ℕ → Outline → Claim → Type 0
-Accepted file o claim = (checkOf file 32 .number ≡ 0) × (foundOf file ≡ Found.Diagram o) × (diagramOf file o .claim ≡ claim)
+Accepted file o claim = (checkOf file 32 .number ≡ 0) × (foundOf file ≡ Reading.Found o) × (diagramOf file o .claim ≡ claim)
 
 pub invariance-met : Accepted b oB Claim.Invariance × IsRun (systemOf b gB) listed × T (startHolds b gB (at listed 0)) × Idles listed × Moves listed
 unfolding reporting

@@ -4,62 +4,53 @@ use mathlib.Core.Bool.{cond, _&&_}
 use mathlib.Core.List.{List}
 use lib.ListN.{length}
 use lib.Dec.{leb, eqb}
-use Rattle.records.specs.declared.walk.Walked.{Walked}
 use Rattle.sections.specs.declared.Section.{Section}
-use Rattle.parsing.specs.declared.Parsed.{Parsed}
+use Rattle.shapes.specs.declared.Reading.{Reading}
+use Rattle.shapes.specs.declared.Reading.the-variants.{Found, Refused}
 use Rattle.records.specs.Record.{kindIs}
-use Rattle.records.specs.Walk.{inSequence, truthOf}
+use Rattle.records.specs.Walk.{andThen, inSequence, truthOf}
 use Rattle.sections.specs.Section.{noFields, propertyAt, propertyFields, variablesOf, transitionsOf, expressionsOf, phasesOr, nodesOf, edgesOf}
 
--- the file goes on behind a part or a section that ends, or its refusal stands
-abbrev pub andParse : Walked → (ℕ → Parsed) → Parsed
-andParse (Walked.End end) next = next end
-andParse (Walked.Refused number place) next = Parsed.Refused number place
-
-abbrev pub andSection : Section → (ℕ → ℕ → Parsed) → Parsed
+-- the file goes on behind a section, or the section's refusal stands
+abbrev pub andSection : Section → (ℕ → ℕ → Reading) → Reading
 andSection (Section.Items n end) next = next n end
-andSection (Section.Refused number place) next = Parsed.Refused number place
+andSection (Section.Refused number place) next = Refused number place
 
--- the edges, from `edge` on, to the file's end: any other record behind them doesn't fit its place
-unfoldable pub edgesParsed : List ℕ → ℕ → ℕ → ℕ → ℕ → ℕ → ℕ → ℕ → Parsed
-edgesParsed file vars transition transitions property node nodes edge =
-    andSection (edgesOf file transitions nodes edge) λ edges end.
-    cond (eqb end (length file / 8))
-    (Parsed.Whole
-    (record { vars = vars; transition = transition; transitions = transitions; property = property; node = node; nodes = nodes; edge = edge; edges = edges }))
-    (Parsed.Refused 3 end)
-
--- the nodes, from `node` on: "too few nodes is 3"
-unfoldable pub nodesParsed : List ℕ → ℕ → ℕ → ℕ → ℕ → ℕ → Parsed
+-- the nodes, from `node` on: "too few nodes is 3"; then the edges, to the file's end: any other record behind them doesn't fit its place
+unfoldable pub nodesParsed : List ℕ → ℕ → ℕ → ℕ → ℕ → ℕ → Reading
 nodesParsed file vars transition transitions property node =
     andSection (nodesOf file vars (propertyAt file property .ranks) (phasesOr file property 32) node) λ nodes edge.
     cond (leb (phasesOr file property 1) nodes)
-    (edgesParsed file vars transition transitions property node nodes edge)
-    (Parsed.Refused 3 edge)
+    (andSection (edgesOf file transitions nodes edge) λ edges end.
+    cond (eqb end (length file / 8))
+    (Found
+    (record { vars = vars; transition = transition; transitions = transitions; property = property; node = node; nodes = nodes; edge = edge; edges = edges }))
+    (Refused 3 end))
+    (Refused 3 edge)
 
 -- "exactly one property", with its expressions
-unfoldable pub propertyParsed : List ℕ → ℕ → ℕ → ℕ → ℕ → Parsed
+unfoldable pub propertyParsed : List ℕ → ℕ → ℕ → ℕ → ℕ → Reading
 propertyParsed file vars transition transitions property =
     cond (kindIs file 0x05 property)
     (cond (propertyFields file property)
-    (andParse (inSequence (truthOf file vars) (expressionsOf file property) (property + 1)) (nodesParsed file vars transition transitions property))
-    (Parsed.Refused 4 property))
-    (Parsed.Refused 3 property)
+    (andThen Refused (inSequence (truthOf file vars) (expressionsOf file property) (property + 1)) (nodesParsed file vars transition transitions property))
+    (Refused 4 property))
+    (Refused 3 property)
 
 -- the transitions, from `transition` on
-unfoldable pub transitionsParsed : List ℕ → ℕ → ℕ → Parsed
+unfoldable pub transitionsParsed : List ℕ → ℕ → ℕ → Reading
 transitionsParsed file vars transition = andSection (transitionsOf file vars transition) (propertyParsed file vars transition)
 
 -- the start, "exactly one", behind one variable or more
-unfoldable pub startParsed : List ℕ → ℕ → ℕ → Parsed
+unfoldable pub startParsed : List ℕ → ℕ → ℕ → Reading
 startParsed file vars at =
     cond (leb 1 vars && kindIs file 0x02 at)
-    (cond (noFields file at) (andParse (truthOf file vars (at + 1)) (transitionsParsed file vars)) (Parsed.Refused 4 at))
-    (Parsed.Refused 3 at)
+    (cond (noFields file at) (andThen Refused (truthOf file vars (at + 1)) (transitionsParsed file vars)) (Refused 4 at))
+    (Refused 3 at)
 
 -- "The file's length isn't a multiple of 8 or exceeds 32,768" (2)
-unfoldable pub parsedOf : List ℕ → Parsed
+unfoldable pub parsedOf : List ℕ → Reading
 parsedOf file =
     cond (eqb (length file % 8) 0 && leb (length file) 32768)
     (andSection (variablesOf file) (startParsed file))
-    (Parsed.Refused 2 0)
+    (Refused 2 0)

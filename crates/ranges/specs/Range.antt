@@ -4,7 +4,6 @@ use Prim.Native.Nat.{ℕ, _+_, _*_}
 use lib.IntN.{ℤ, pos}
 use Rattle.truths.specs.Table.{tableOf}
 use Rattle.records.specs.Record.{value}
-use Rattle.states.specs.State.{Within}
 
 -- the low or the high ends of the twelve ranges: of a variable's record the bytes from `field` on, 2 for b and 4 for c ("range b..c")
 unfoldable pub endsOf : List ℕ → ℕ → ℕ → List ℤ
@@ -15,7 +14,3 @@ lowsOf file vars = endsOf file vars 2
 
 abbrev pub highsOf : List ℕ → ℕ → List ℤ
 highsOf file vars = endsOf file vars 4
-
--- the states of a file
-abbrev pub State : List ℕ → ℕ → List ℤ → Type 0
-State file vars state = Within (lowsOf file vars) (highsOf file vars) state

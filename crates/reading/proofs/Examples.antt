@@ -13,9 +13,10 @@ use Rattle.records.specs.Kind
 use Rattle.records.specs.Walk
 use Rattle.sections.specs.Section
 use Rattle.parsing.specs.Outline
-use Rattle.reading.specs.declared.Reading.{Reading}
+use Rattle.shapes.specs.declared.Reading.{Reading}
 use Rattle.truths.specs.Search
 use Rattle.shapes.specs.Property
+use Rattle.shapes.specs.Edge as Shape
 use Rattle.states.specs.Number
 use Rattle.reading.specs.States
 use Rattle.intervals.specs.Interval
@@ -145,18 +146,18 @@ table = marked ++ choices
 -- what reading answers, row by row, is the table's other column
 columns : map (λ (row : Row). readOf (flatten (row .0))) table ≡ map (λ (row : Row). row .1) table
 unfolding flatten Bytes.signed16 Ends.minZ Ends.maxZ Ends.around Ends.overEnds Ends.inBounds Radix.offsetOf
-    Record.kindIs Record.zerosOf Record.sameBytes Kind.within Kind.formOf Kind.signatureOf
+    Record.kindIs Record.zerosOf Record.sameBytes Kind.within Kind.signatureOf
     Walk.expressionFields Walk.inSequence Walk.operandsOf Walk.recordThen Walk.walkOf
     Section.variableFields Section.transitionFields Section.assignmentFields Section.propertyFields Section.edgeFields Section.itemsOf
     Section.variablesOf Section.assignmentsOf Section.transitionOf Section.transitionsOf Section.expressionsOf Section.phasesOr
     Section.nodesOf Section.repeatedOf Section.edgesOf
-    Outline.edgesParsed Outline.nodesParsed Outline.propertyParsed Outline.transitionsParsed Outline.startParsed Outline.parsedOf
+    Outline.nodesParsed Outline.propertyParsed Outline.transitionsParsed Outline.startParsed Outline.parsedOf
     Search.any Walk.refuseFirst Number.sizeOf States.sizeAt States.statesOf
     Interval.leafOf Interval.combine Interval.joinOf Interval.ownOf Interval.byOperands Interval.analysisOf Interval.analysedFrom Interval.intervalsOf
     Property.claimOf Property.propertyOf Section.phasesFit Section.edgeAt
     Edge.transitionAt Edge.justOf Edge.conflictOf Edge.leadsOf Edge.fallsOf Edge.doubleRuleOf Edge.ruleOf Edge.rulesOf
-    Edge.doubleFrom Edge.doubledOf Edge.doublesOf
-    Read.stagesRead Read.parsedRead Read.readOf
+    Shape.doubleFrom Edge.doubledOf Edge.doublesOf
+    Read.stagesRead Read.readOf
 columns = refl
 
 pub examples : (row : Row) → List·Memᴰ row table → readOf (flatten (row .0)) ≡ row .1

@@ -1,25 +1,18 @@
 -- The edge rules, and the refusals 9 and 10 that enforce them.
-use mathlib.Core.Path.{_≡_}
-use Prim.Native.Nat.{ℕ, _+_, _-_, _*_, _/_, _<_, _≤_}
+use Prim.Native.Nat.{ℕ, _-_}
 use mathlib.Core.Bool.{Bool, cond, not, _&&_, _||_, Bool·beq}
 use mathlib.Core.List.{List}
-use lib.ListN.{length}
 use lib.Dec.{ltb, leb, eqb}
 use Rattle.records.specs.declared.walk.Walked.{Walked}
 use Rattle.shapes.specs.declared.Outline.{Outline}
-use Rattle.records.specs.Walk.{inSequence}
+use Rattle.records.specs.Walk.{inSequence, refuseFirst}
 use Rattle.records.specs.Record.{fieldA}
 use Rattle.shapes.specs.declared.Property.{Property}
 use Rattle.shapes.specs.declared.Edge.{Edge}
+use Rattle.shapes.specs.Edge.{doubleFrom}
 use Rattle.sections.specs.Section.{propertyAt, edgeAt, transitionOf}
-use Rattle.records.specs.Place.{placeOf, placesOf}
-use Rattle.reading.specs.States.{VariablesFit}
-use Rattle.records.specs.Walk.{refuseFirst}
+use Rattle.records.specs.Place.{placeOf}
 use Rattle.truths.specs.Search.{any}
-
--- what the property asks
-abbrev pub property : List ℕ → Outline → Property
-property file o = propertyAt file (o .property)
 
 -- where transition t stands, and whether it is just (a = 1)
 unfoldable pub transitionAt : List ℕ → Outline → ℕ → ℕ
@@ -46,47 +39,25 @@ fallsOf p e = p .rising || ltb (e .to) (e .from)
 unfoldable pub doubleRuleOf : List ℕ → Outline → ℕ → Bool
 doubleRuleOf file o at =
     not (any (λ i. conflictOf (edgeAt file i) (edgeAt file at)) (at - o .edge) (o .edge))
-    && (not (edgeAt file at .double) || (fallsOf (property file o) (edgeAt file at) && justOf file o (edgeAt file at .transition)))
+    && (not (edgeAt file at .double) || (fallsOf (propertyAt file (o .property)) (edgeAt file at) && justOf file o (edgeAt file at .transition)))
 
 -- "Invariance: single only. Wait-for: single, from node 1 up, target not above source. Chain: likewise, double strictly down, on just
 -- transitions, one double transition per node, never also single there"
 unfoldable pub ruleOf : List ℕ → Outline → ℕ → Bool
 ruleOf file o at =
-    leadsOf (property file o) (edgeAt file at) && cond (property file o .doubles) (doubleRuleOf file o at) (not (edgeAt file at .double))
+    let p = propertyAt file (o .property) in
+    leadsOf p (edgeAt file at) && cond (p .doubles) (doubleRuleOf file o at) (not (edgeAt file at .double))
 
 -- "An edge breaks an edge rule, given the edges before it" (9)
 unfoldable pub rulesOf : List ℕ → Outline → Walked
 rulesOf file o = refuseFirst 9 (ruleOf file o) (o .edges) (o .edge)
 
 -- "each node from 1 up has a double edge"
-unfoldable pub doubleFrom : ℕ → Edge → Bool
-doubleFrom node e = e .double && eqb (e .from) node
-
 unfoldable pub doubledOf : List ℕ → Outline → ℕ → Bool
 doubledOf file o node = any (λ i. doubleFrom node (edgeAt file i)) (o .edges) (o .edge)
 
 -- "A chain node lacks its double edge (place: lowest such node)" (10)
 unfoldable pub doublesOf : List ℕ → Outline → Walked
 doublesOf file o =
-    let p = property file o in
+    let p = propertyAt file (o .property) in
     cond (p .doubles) (refuseFirst 10 (doubledOf file o) (o .nodes - p .from) (p .from)) (Walked.End 0)
-
--- ---- what the code asks
--- the outline stays within the file, its counts within their limits, and its edges name its transitions
-pub record OutlineFits (file : List ℕ) (o : Outline) : Type 0 where
-  pub vars-most : o .vars ≤ 12
-  pub ranges : VariablesFit file (o .vars)
-  pub transition-here : o .transition ≤ length file / 8
-  pub transitions-most : o .transitions ≤ 32
-  pub property-here : 8 * o .property + 8 ≤ length file
-  pub nodes-most : o .nodes ≤ 32
-  pub edges-here : 8 * (o .edge + o .edges) ≤ length file
-  pub edges-named : (e : ℕ) → e < o .edges → edgeAt file (o .edge + e) .transition < o .transitions
-
--- an edge's record at `at`, and the places of the transitions
-pub record EdgeFits (file : List ℕ) (o : Outline) (places : List ℕ) (at : ℕ) : Type 0 where
-  pub outline : OutlineFits file o
-  pub found : places ≡ placesOf (transitionOf file (o .vars)) (o .transitions) (o .transition)
-  pub here : 8 * at + 8 ≤ length file
-  pub behind : o .edge ≤ at
-  pub named : edgeAt file at .transition < o .transitions

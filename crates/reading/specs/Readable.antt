@@ -8,13 +8,13 @@ use Rattle.integers.specs.Interval.{inBounds}
 use Rattle.records.specs.declared.walk.Walked.{Walked}
 use Rattle.shapes.specs.declared.Outline.{Outline}
 use Rattle.records.specs.Record.{kindAt, fieldA, kindIs}
-use Rattle.records.specs.Kind.{number, truth, formAt, signatureAt}
+use Rattle.records.specs.Kind.{number, truth, signatureAt}
 use Rattle.records.specs.Walk.{inSequence, walkOf, truthOf}
 use Rattle.shapes.specs.declared.Edge.{Edge}
-use Rattle.sections.specs.Section.{edgeAt, transitionOf, nodeOf}
+use Rattle.sections.specs.Section.{propertyAt, edgeAt, transitionOf, nodeOf}
 use Rattle.intervals.specs.declared.Analysis.{Analysis}
 use Rattle.intervals.specs.Interval.{leafOf, joinOf, analysisOf}
-use Rattle.reading.specs.Edge.{property, justOf}
+use Rattle.reading.specs.Edge.{justOf}
 use Rattle.intervals.specs.Expression.{Expression}
 
 -- ---- the start
@@ -61,11 +61,11 @@ pub record Node (file : List ℕ) (o : Outline) (n : ℕ) : Type 0 where
   pub place : ℕ
   pub mid : ℕ
   pub end : ℕ
-  pub reached : inSequence (nodeOf file (o .vars) (property file o .ranks)) n (o .node) ≡ Walked.End place
+  pub reached : inSequence (nodeOf file (o .vars) (propertyAt file (o .property) .ranks)) n (o .node) ≡ Walked.End place
   pub named : kindIs file 0x06 place ≡ true
   pub interval : Interval
   pub assertion : Expression file (o .vars) 16 truth (place + 1) mid interval
-  pub ranks : inSequence (walkOf file (o .vars) 16 number) (property file o .ranks) mid ≡ Walked.End end
+  pub ranks : inSequence (walkOf file (o .vars) 16 number) (propertyAt file (o .property) .ranks) mid ≡ Walked.End end
 
 -- ---- edges
 -- edge e, and it names a transition and two nodes of the file
@@ -95,9 +95,9 @@ pub record DoubleTransition (file : List ℕ) (o : Outline) (node : ℕ) : Type 
 -- the own interval of the record at `at`, whose operands' intervals are in bounds: "a constant's own value, a variable's range", or that of a sum,
 -- difference or product
 pub data Own (file : List ℕ) (at : ℕ) : Interval → Type 0 where
-  leaf : signatureAt file at .operands ≡ 0 → Own file at (leafOf file at (formAt file at))
+  leaf : signatureAt file at .operands ≡ 0 → Own file at (leafOf file at)
   join : (levels : ℕ) {mid end : ℕ} {j k : Interval} → signatureAt file at .operands ≡ 2 → analysisOf file levels (at + 1) ≡ Analysis.Within j mid
-      → analysisOf file levels mid ≡ Analysis.Within k end → Own file at (joinOf (kindAt file at) (formAt file at) j k)
+      → analysisOf file levels mid ≡ Analysis.Within k end → Own file at (joinOf (kindAt file at) j k)
 
 -- it goes out of bounds
 pub record Outside (file : List ℕ) (at : ℕ) : Type 0 where

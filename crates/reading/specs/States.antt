@@ -1,10 +1,8 @@
 -- How many states a file has. "The ranges' product, built up by variable, passes 1,048,576 (place: that variable)" (7).
-use Prim.Native.Nat.{ℕ, zero, suc, _+_, _*_, _<_, _≤_}
+use Prim.Native.Nat.{ℕ, zero, suc, _+_, _*_}
 use mathlib.Core.Bool.{cond}
 use mathlib.Core.List.{List}
-use lib.ListN.{length}
 use lib.Dec.{leb}
-use lib.Signed.{_≤ℤ_}
 use Rattle.records.specs.declared.walk.Walked.{Walked}
 use Rattle.records.specs.Record.{valueB, valueC}
 use Rattle.states.specs.Number.{sizeOf}
@@ -18,8 +16,3 @@ unfoldable pub statesOf : List ℕ → ℕ → ℕ → ℕ → Walked
 statesOf file zero at product = Walked.End product
 statesOf file (suc left) at product =
     cond (leb (product * sizeAt file at) 1048576) (statesOf file left (at + 1) (product * sizeAt file at)) (Walked.Refused 7 at)
-
--- the records of the variables are there, and no range is empty
-pub record VariablesFit (file : List ℕ) (vars : ℕ) : Type 0 where
-  pub here : 8 * vars ≤ length file
-  pub ordered : (v : ℕ) → v < vars → valueB file v ≤ℤ valueC file v

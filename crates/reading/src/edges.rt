@@ -7,16 +7,16 @@ use sections::transition_places;
 use shapes::Edge;
 use shapes::Outline;
 use shapes::Property;
+use shapes::double_from;
 use shapes::property_of;
 ghost use mathlib.Core.Path.{_≡_};
 ghost use Prim.Native.Nat.{_+_, _*_, _≤_, _<_};
 ghost use lib.ListN.{length};
-ghost use Rattle.sections.specs.Section.{transitionOf};
+ghost use Rattle.sections.specs.Section.{transitionOf, edgeAt};
 ghost use Rattle.records.specs.Place.{placesOf};
 ghost use Rattle.truths.specs.Search.{any};
-ghost use Rattle.sections.specs.Section.{edgeAt};
-ghost use Rattle.reading.specs.Edge.{conflictOf, justOf, leadsOf, fallsOf, doubleRuleOf, ruleOf, rulesOf, doubleFrom, doubledOf, doublesOf};
-ghost use Rattle.reading.specs.Edge.{OutlineFits, EdgeFits};
+ghost use Rattle.reading.specs.Edge.{conflictOf, justOf, leadsOf, fallsOf, doubleRuleOf, ruleOf, rulesOf, doubledOf, doublesOf};
+ghost use Rattle.reading.specs.Fits.{OutlineFits, EdgeFits};
 
 // Whether two edges conflict: from one node, either of one transition, single and double, or both double.
 fn conflict(a: Edge, b: Edge) -> bool
@@ -136,16 +136,6 @@ pub(crate) fn rules(file: &[u8], outline: Outline) -> Walked
         left -= 1;
     }
     Walked::End(at)
-}
-
-// Whether the edge is double and leads from the node.
-fn double_from(edge: Edge, node: usize) -> bool
-    ensures { λ r. ⌜ r ≡ doubleFrom node edge ⌝ }
-{
-    if edge.double {
-        return edge.from == node;
-    }
-    false
 }
 
 // Whether a double edge leads from the node.

@@ -1,20 +1,14 @@
 // Reading a file: its parts (crate parsing), then refusals 7 to 10.
-use parsing::Parsed;
 use parsing::parse;
 use records::walk::Walked;
 use shapes::Outline;
+use shapes::Reading;
 ghost use mathlib.Core.Path.{_≡_};
-ghost use Rattle.reading.specs.Edge.{OutlineFits};
+ghost use Rattle.reading.specs.Fits.{OutlineFits};
 ghost use Rattle.reading.specs.Read.{stagesRead, readOf};
 
 pub mod edges;
 pub mod product;
-
-// The outline of a readable file, or the refusal that meets it, with its number and its place.
-pub enum Reading {
-    Found(Outline),
-    Refused(u8, usize),
-}
 
 // The refusals 7 to 10 of a file that parses, in their order, or its outline.
 fn read_parsed(file: &[u8], outline: Outline) -> Reading
@@ -46,7 +40,7 @@ pub fn read(file: &[u8]) -> Reading
 {
     let found = parse(file);
     match found {
-        Parsed::Whole(outline) => read_parsed(file, outline),
-        Parsed::Refused(number, place) => Reading::Refused(number, place),
+        Reading::Found(outline) => read_parsed(file, outline),
+        Reading::Refused(number, place) => Reading::Refused(number, place),
     }
 }

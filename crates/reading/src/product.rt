@@ -7,7 +7,8 @@ ghost use Prim.Native.Nat.{_+_, _*_, _≤_};
 ghost use lib.ListN.{length};
 ghost use lib.Signed.{_≤ℤ_};
 ghost use Rattle.records.specs.Record.{valueB, valueC};
-ghost use Rattle.reading.specs.States.{sizeAt, statesOf, VariablesFit};
+ghost use Rattle.reading.specs.States.{sizeAt, statesOf};
+ghost use Rattle.reading.specs.Fits.{VariablesFit};
 
 // How many values the variable at record `at` has.
 fn range_size(file: &[u8], at: usize) -> usize

@@ -8,7 +8,7 @@ use lib.Dec.{ltb, eqb}
 use Rattle.records.specs.declared.walk.Walked.{Walked}
 use Rattle.records.specs.declared.walk.Walked.the-variants.{End, Refused}
 use Rattle.records.specs.Record.{kindAt, fieldA, zerosOf}
-use Rattle.records.specs.Kind.{truth, formOf, signatureOf, signatureAt}
+use Rattle.records.specs.Kind.{truth, signatureOf, signatureAt}
 
 -- "Fields not named for a kind are zero": a constant (10) names b, a variable (11) a, any other record of an expression none
 unfoldable pub expressionFields : List ℕ → ℕ → ℕ → Bool
@@ -17,20 +17,20 @@ expressionFields file vars at =
     (cond (eqb (kindAt file at) 0x11) (ltb (fieldA file at) vars && zerosOf file (8 * at + 2) 6)
     (zerosOf file (8 * at + 1) 7))
 
--- the walk goes on behind `end`, or its refusal stands
-abbrev pub andThen : Walked → (ℕ → Walked) → Walked
-andThen (End end) next = next end
-andThen (Refused number place) next = Refused number place
+-- what follows a walk goes on behind its `end`, or its refusal stands; `refused` makes the refusals of what follows
+abbrev pub andThen : {A : Type 0} → (ℕ → ℕ → A) → Walked → (ℕ → A) → A
+andThen refused (End end) next = next end
+andThen refused (Refused number place) next = refused number place
 
 -- n parts, one behind the other, each walked by `part`
 unfoldable pub inSequence : (ℕ → Walked) → ℕ → ℕ → Walked
 inSequence part zero at = End at
-inSequence part (suc n) at = andThen (part at) (inSequence part n)
+inSequence part (suc n) at = andThen Refused (part at) (inSequence part n)
 
 -- n operands, each walked by `part` with its sort: the first of sort a, and behind it those of sort b
 unfoldable pub operandsOf : (ℕ → ℕ → Walked) → ℕ → ℕ → ℕ → ℕ → Walked
 operandsOf part a b zero at = End at
-operandsOf part a b (suc n) at = andThen (part a at) (inSequence (part b) n)
+operandsOf part a b (suc n) at = andThen Refused (part a at) (inSequence (part b) n)
 
 -- the record at `at` by itself, then `rest`: 3 where the file ends before it or its kind is not of the sort wanted, 4 where a field has a value not
 -- allowed
@@ -59,7 +59,7 @@ spans operand (suc n) k part = spans operand n (k + operand (drop (8 * k) part))
 
 unfoldable pub span : ℕ → List ℕ → ℕ
 span zero part = 0
-span (suc levels) part = spans (span levels) (signatureOf (formOf (getD part 0 0)) .operands) 1 part
+span (suc levels) part = spans (span levels) (signatureOf (getD part 0 0) .operands) 1 part
 
 -- ---- tests of numbers in a row
 -- the `left` numbers from `at` on pass the test, or the first that does not is refused, with this number of refusal

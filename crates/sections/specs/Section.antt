@@ -58,11 +58,6 @@ edgeAt file at = record { transition = fieldA file at; from = fieldB file at; to
 
 -- ---- sections: "A variable, transition, node, edge or nesting level is one past its limit" (5), "A transition assigns a variable again, or an edge
 -- repeats a, b and c" (6)
--- a section goes on behind an item that ends, or the item's refusal stands
-abbrev pub andItems : Walked → (ℕ → Section) → Section
-andItems (Walked.End end) next = next end
-andItems (Walked.Refused number place) next = Section.Refused number place
-
 -- items that begin with a record of `kind`, as long as there is one: n before `at`, and at most `left` more. `fields` tests an item's
 -- first record, and `item` walks the item
 unfoldable pub itemsOf : List ℕ → ℕ → (ℕ → Bool) → (ℕ → Walked) → ℕ → ℕ → ℕ → Section
@@ -70,7 +65,7 @@ itemsOf file kind fields item zero n at =
     cond (kindIs file kind at) (cond (fields at) (Section.Refused 5 at) (Section.Refused 4 at)) (Section.Items n at)
 itemsOf file kind fields item (suc left) n at =
     cond (kindIs file kind at)
-    (cond (fields at) (andItems (item at) (itemsOf file kind fields item left (n + 1))) (Section.Refused 4 at))
+    (cond (fields at) (andThen Section.Refused (item at) (itemsOf file kind fields item left (n + 1))) (Section.Refused 4 at))
     (Section.Items n at)
 
 -- "1 to 12 of them"
@@ -85,14 +80,14 @@ assignmentsOf file vars (suc left) assigned at =
     cond (kindIs file 0x04 at)
     (cond (assignmentFields file vars at)
     (cond (eqb (getD assigned (fieldA file at) 0) 0)
-    (andThen (walkOf file vars 16 number (at + 1)) (assignmentsOf file vars left (set assigned (fieldA file at) 1)))
+    (andThen Walked.Refused (walkOf file vars 16 number (at + 1)) (assignmentsOf file vars left (set assigned (fieldA file at) 1)))
     (Walked.Refused 6 at))
     (Walked.Refused 4 at))
     (Walked.End at)
 
 -- "then its guard (truth), then any 04 records"
 unfoldable pub transitionOf : List ℕ → ℕ → ℕ → Walked
-transitionOf file vars at = andThen (walkOf file vars 16 truth (at + 1)) (assignmentsOf file vars 12 (replicate 12 0))
+transitionOf file vars at = andThen Walked.Refused (walkOf file vars 16 truth (at + 1)) (assignmentsOf file vars 12 (replicate 12 0))
 
 -- "0 to 32 transitions"
 unfoldable pub transitionsOf : List ℕ → ℕ → ℕ → Section
@@ -108,7 +103,7 @@ expressionsOf file at = cond (propertyAt file at .entry) 1 0 + phasesOr file at 
 
 -- its assertion, and then its ranks, numbers
 abbrev pub nodeOf : List ℕ → ℕ → ℕ → ℕ → Walked
-nodeOf file vars ranks at = andThen (truthOf file vars (at + 1)) (inSequence (walkOf file vars 16 number) ranks)
+nodeOf file vars ranks at = andThen Walked.Refused (truthOf file vars (at + 1)) (inSequence (walkOf file vars 16 number) ranks)
 
 unfoldable pub nodesOf : List ℕ → ℕ → ℕ → ℕ → ℕ → Section
 nodesOf file vars ranks most at = itemsOf file 0x06 (noFields file) (nodeOf file vars ranks) most 0 at

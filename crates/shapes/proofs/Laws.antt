@@ -1,1 +1,2 @@
 pub mod Property
+pub mod Edge

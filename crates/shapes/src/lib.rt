@@ -1,6 +1,7 @@
-// What every layer speaks of, as values: what a property asks, a row of a table; an edge; and where the parts of a file stand.
+// What every layer speaks of, as values: what a property asks, a row of a table; an edge; where the parts of a file stand; and what reading a file answers.
 ghost use mathlib.Core.Path.{_≡_};
 ghost use Rattle.shapes.specs.Property.{claimOf, propertyOf};
+ghost use Rattle.shapes.specs.Edge.{doubleFrom};
 
 // What a property claims.
 pub enum Claim {
@@ -44,6 +45,22 @@ pub struct Outline {
     pub nodes: usize,
     pub edge: usize,
     pub edges: usize,
+}
+
+// The outline of a file, or the refusal that meets it, with its number and its place.
+pub enum Reading {
+    Found(Outline),
+    Refused(u8, usize),
+}
+
+// Whether the edge is double and leads from the node.
+pub fn double_from(edge: Edge, node: usize) -> bool
+    ensures { λ r. ⌜ r ≡ doubleFrom node edge ⌝ }
+{
+    if edge.double {
+        return edge.from == node;
+    }
+    false
 }
 
 // The claim of a property's a.

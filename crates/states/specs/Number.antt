@@ -1,9 +1,7 @@
 -- "States are numbered with the last variable fastest, each variable's low end first."
-use mathlib.Core.Bool.{Bool, true, cond, _&&_}
 use mathlib.Core.List.{List, [], _∷_}
 use Prim.Native.Nat.{ℕ, _+_, _*_, _/_, _%_}
-use lib.IntN.{ℤ, pos, _+ℤ_}
-use lib.Signed.{leZ, ltZ}
+use lib.IntN.{ℤ}
 use Rattle.integers.specs.Radix.{at, offsetOf}
 
 -- how many values a range has
@@ -28,19 +26,3 @@ numberOf [] highs state = 0
 numberOf (low ∷ lows) [] state = 0
 numberOf (low ∷ lows) (high ∷ highs) [] = 0
 numberOf (low ∷ lows) (high ∷ highs) (value ∷ state) = offsetOf low value * countOf lows highs + numberOf lows highs state
-
--- ---- the move forward to the next state
--- every variable is at its high end
-unfoldable pub lastOf : List ℤ → List ℤ → Bool
-lastOf [] state = true
-lastOf (high ∷ highs) [] = true
-lastOf (high ∷ highs) (value ∷ state) = leZ high value && lastOf highs state
-
--- a variable moves on where all behind it are at their high ends; one that is itself at its high end starts anew. So the last state is followed by the
--- first
-unfoldable pub advanceOf : List ℤ → List ℤ → List ℤ → List ℤ
-advanceOf [] highs state = []
-advanceOf (low ∷ lows) [] state = []
-advanceOf (low ∷ lows) (high ∷ highs) [] = []
-advanceOf (low ∷ lows) (high ∷ highs) (value ∷ state) =
-    cond (lastOf highs state) (cond (ltZ value high) (value +ℤ pos 1) low) value ∷ advanceOf lows highs state

@@ -1,24 +1,11 @@
 -- "A state gives every variable a value in its range." A state is the list of twelve values: a variable that the file lacks has the range 0..0, so its
 -- value is zero.
-use mathlib.Core.Path.{_≡_}
 use mathlib.Core.List.{List, [], _∷_}
-use Prim.Native.Nat.{ℕ, _<_, _≤_}
-use lib.IntN.{ℤ, pos}
-use lib.ListN.{getD}
+use lib.IntN.{ℤ}
 use lib.Signed.{_≤ℤ_}
-
--- no range is empty
-pub data Ranges : List ℤ → List ℤ → Type 0 where
-  none : Ranges [] []
-  more : {low high : ℤ} {lows highs : List ℤ} → low ≤ℤ high → Ranges lows highs → Ranges (low ∷ lows) (high ∷ highs)
 
 -- each value lies in its range
 pub data Within : List ℤ → List ℤ → List ℤ → Type 0 where
   none : Within [] [] []
   more : {low high value : ℤ} {lows highs state : List ℤ} → low ≤ℤ value → value ≤ℤ high → Within lows highs state
       → Within (low ∷ lows) (high ∷ highs) (value ∷ state)
-
--- the variables from `vars` on have one value each, which the state has
-unfoldable pub Idle : ℕ → List ℤ → List ℤ → List ℤ → Type 0
-Idle vars lows highs state =
-    (i : ℕ) → vars ≤ i → i < 12 → (getD state i (pos 0) ≡ getD lows i (pos 0)) × (getD highs i (pos 0) ≡ getD state i (pos 0))

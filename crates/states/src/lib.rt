@@ -4,8 +4,10 @@ use integers::radix::value_at;
 ghost use mathlib.Core.Path.{_≡_};
 ghost use Prim.Native.Nat.{_≤_, _<_};
 ghost use lib.Signed.{_≤ℤ_};
-ghost use Rattle.states.specs.State.{Ranges, Within, Idle};
-ghost use Rattle.states.specs.Number.{sizeOf, countOf, stateOf, numberOf, advanceOf};
+ghost use Rattle.states.specs.State.{Within};
+ghost use Rattle.states.specs.Ranges.{Ranges, Idle};
+ghost use Rattle.states.specs.Number.{sizeOf, countOf, stateOf, numberOf};
+ghost use Rattle.states.specs.Advance.{advanceOf};
 
 // How many values a range has.
 pub fn size(low: i16, high: i16) -> usize

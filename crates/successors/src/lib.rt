@@ -15,10 +15,12 @@ use records::kind_is;
 ghost use mathlib.Core.Path.{_≡_};
 ghost use Prim.Native.Nat.{_+_, _/_, _<_};
 ghost use lib.ListN.{length, set};
-ghost use Rattle.integers.specs.Interval.{Bounded};
+ghost use Rattle.integers.specs.Inside.{Bounded};
 ghost use Rattle.records.specs.Kind.{number as numberSort};
-ghost use Rattle.expressions.specs.Expression.{partAt, Fits, Spans};
-ghost use Rattle.evaluating.specs.Transition.{AssignmentsFit, TransitionFits};
+ghost use Rattle.expressions.specs.Expression.{partAt};
+ghost use Rattle.expressions.specs.Spans.{Spans};
+ghost use Rattle.expressions.specs.Fits.{Fits};
+ghost use Rattle.evaluating.specs.Fits.{AssignmentsFit, TransitionFits};
 ghost use Rattle.boxes.specs.Box.{box};
 ghost use Rattle.successors.specs.Successor.{pointOf, rangeIn, cutIn, targetAt, targetsFrom, towardOf, reachedBy, start, moveOf};
 

@@ -13,9 +13,11 @@ use Rattle.truths.specs.Table.{tabulate}
 use Rattle.diagrams.specs.Diagram.{edgeOf}
 use Rattle.diagrams.specs.Truth.{claimedAt, qAt}
 use Rattle.diagrams.specs.System.{stepAt}
-use Rattle.expressions.specs.Expression.{holdsOf, TruthFits}
+use Rattle.expressions.specs.Expression.{holdsOf}
+use Rattle.expressions.specs.Fits.{TruthFits}
 use Rattle.states.specs.State.{Within}
-use Rattle.evaluating.specs.Transition.{guardOf, enabledOf, successorOf, TransitionFits}
+use Rattle.evaluating.specs.Step.{guardOf, successorOf, enabledOf}
+use Rattle.evaluating.specs.Fits.{TransitionFits}
 use Rattle.conditions.specs.Edges.{carries, isDouble}
 use Rattle.truths.specs.Truth.{implies}
 use Rattle.conditions.specs.declared.Condition.{Condition}

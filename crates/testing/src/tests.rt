@@ -16,11 +16,11 @@ use successors::next_in;
 ghost use mathlib.Core.Path.{_≡_};
 ghost use Prim.Native.Nat.{ℕ, _≤_, _<_};
 ghost use lib.ListN.{getD, take};
-ghost use Rattle.expressions.specs.Expression.{Spans, TruthFits};
+ghost use Rattle.expressions.specs.Spans.{Spans};
+ghost use Rattle.expressions.specs.Fits.{TruthFits};
 ghost use Rattle.states.specs.State.{Within};
 ghost use Rattle.boxes.specs.Box.{Part};
-ghost use Rattle.testing.specs.Testing.{someHolds, concludesOf, passesOf, TestFits};
-ghost use Rattle.testing.specs.Testing.{someIn, concludesIn, passesIn};
+ghost use Rattle.testing.specs.Testing.{someHolds, concludesOf, passesOf, TestFits, someIn, concludesIn, passesIn};
 
 // Whether a truth at one of the places holds.
 fn some_holds(

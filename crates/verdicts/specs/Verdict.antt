@@ -6,9 +6,9 @@ use lib.ListN.{replicate}
 use lib.Dec.{ltb, leb}
 use lib.IntN.{ℤ, pos}
 use Rattle.diagrams.specs.declared.Diagram.{Diagram}
-use Rattle.diagrams.specs.declared.Found.{Found}
+use Rattle.shapes.specs.Reading.{andFound}
 use Rattle.diagrams.specs.Diagram.{foundOf, diagramOf}
-use Rattle.states.specs.Number.{countOf, stateOf, numberOf}
+use Rattle.states.specs.Number.{stateOf, numberOf}
 use Rattle.truths.specs.Search.{firstFailing}
 use Rattle.conditions.specs.Condition.{totalOf, conditionAt, refusalNumber, nodeNumber, transitionNumber}
 use Rattle.testing.specs.Holding.{conditionHolds}
@@ -17,9 +17,6 @@ use Rattle.report.specs.declared.Verdict.{Verdict}
 use Rattle.verdicts.specs.declared.Single.{Single}
 
 -- ---- states by number
-unfoldable pub stateCount : Diagram → ℕ
-stateCount g = countOf (g .low) (g .high)
-
 unfoldable pub stateAt : Diagram → ℕ → List ℤ
 stateAt g n = stateOf (g .low) (g .high) n
 
@@ -38,11 +35,11 @@ namedOf c number state tests =
 
 -- the lowest state that breaks a condition, by its number, or how many states there are
 unfoldable pub breakingOf : List ℕ → Diagram → Condition → ℕ
-breakingOf file g c = firstFailing (λ n. conditionHolds file g c (stateAt g n)) (stateCount g)
+breakingOf file g c = firstFailing (λ n. conditionHolds file g c (stateAt g n)) (g .states)
 
 -- no state breaks it: it "is true at every state in the ranges"
 unfoldable pub isTrue : List ℕ → Diagram → Condition → Bool
-isTrue file g c = leb (stateCount g) (breakingOf file g c)
+isTrue file g c = leb (g .states) (breakingOf file g c)
 
 -- "If conditions are broken, the lowest is given": the lowest broken condition, by its number, or the total
 unfoldable pub brokenOf : List ℕ → Diagram → ℕ
@@ -56,7 +53,7 @@ brokenAt file g = breakingOf file g (conditionAt file g (brokenOf file g))
 -- at every state: k × S + n + 1. An accepted file: the total × S. Otherwise none
 unfoldable pub testsOf : List ℕ → Diagram → ℕ
 testsOf file g =
-    cond (ltb (brokenOf file g) (totalOf file g)) (brokenOf file g * stateCount g + brokenAt file g + 1) (totalOf file g * stateCount g)
+    cond (ltb (brokenOf file g) (totalOf file g)) (brokenOf file g * g .states + brokenAt file g + 1) (totalOf file g * g .states)
 
 -- of a readable file: "the first untrue condition is named with a state that breaks it", or "for 0 the total"
 unfoldable pub judgedOf : List ℕ → Diagram → Verdict
@@ -65,12 +62,8 @@ judgedOf file g =
     (namedOf (conditionAt file g (brokenOf file g)) (brokenOf file g) (stateAt g (brokenAt file g)) (testsOf file g))
     (unnamedOf 0 (totalOf file g) (testsOf file g))
 
-unfoldable pub verdictBy : List ℕ → Found → Verdict
-verdictBy file (Found.Diagram o) = judgedOf file (diagramOf file o)
-verdictBy file (Found.Refused number place) = unnamedOf number place 0
-
 unfoldable pub verdictOf : List ℕ → Verdict
-verdictOf file = verdictBy file (foundOf file)
+verdictOf file = andFound (λ number place. unnamedOf number place 0) (foundOf file) λ o. judgedOf file (diagramOf file o)
 
 -- "1. The report buffer is under 32 bytes.": `room` is its length
 unfoldable pub checkOf : List ℕ → ℕ → Verdict
@@ -80,12 +73,8 @@ checkOf file room = cond (ltb room 32) (unnamedOf 1 0 0) (verdictOf file)
 unfoldable pub singleJudged : List ℕ → Diagram → ℕ → ℕ → Single
 singleJudged file g condition state =
     cond (leb (totalOf file g) condition) (Single.Refused 11 0)
-    (cond (leb (stateCount g) state) (Single.Refused 12 0)
+    (cond (leb (g .states) state) (Single.Refused 12 0)
     (cond (conditionHolds file g (conditionAt file g condition) (stateAt g state)) Single.Holds Single.Fails))
 
-unfoldable pub singleBy : List ℕ → Found → ℕ → ℕ → Single
-singleBy file (Found.Diagram o) condition state = singleJudged file (diagramOf file o) condition state
-singleBy file (Found.Refused number place) condition state = Single.Refused number place
-
 unfoldable pub singleOf : List ℕ → ℕ → ℕ → Single
-singleOf file condition state = singleBy file (foundOf file) condition state
+singleOf file condition state = andFound Single.Refused (foundOf file) λ o. singleJudged file (diagramOf file o) condition state

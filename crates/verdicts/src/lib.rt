@@ -7,7 +7,6 @@ use conditions::refusal_number;
 use conditions::total;
 use conditions::transition_number;
 use diagrams::Diagram;
-use diagrams::Found;
 use diagrams::diagram_of;
 use diagrams::find;
 use expressions::holds;
@@ -17,6 +16,7 @@ use searching::Search;
 use searching::Skipped;
 use searching::budget::budget;
 use searching::skip;
+use shapes::Reading;
 use states::advance;
 use states::state_of;
 use testing::test_of;
@@ -26,7 +26,7 @@ ghost use mathlib.Core.Path.{_≡_};
 ghost use Prim.Native.Nat.{_≤_};
 ghost use Rattle.diagrams.specs.Diagram.{Loaded};
 ghost use Rattle.conditions.specs.Condition.{nodeNumber, transitionNumber};
-ghost use Rattle.expressions.specs.Expression.{Spans};
+ghost use Rattle.expressions.specs.Spans.{Spans};
 ghost use Rattle.verdicts.specs.Verdict.{unnamedOf, namedOf, judgedOf, verdictOf, singleJudged, singleOf};
 
 // What a single test answers: the refusal that meets it, with its number and its place; or whether the condition holds at the state.
@@ -146,8 +146,8 @@ pub fn verdict(file: &[u8], by_boxes: bool) -> Verdict
 {
     let found = find(file);
     match found {
-        Found::Diagram(outline) => judge(file, diagram_of(file, outline), by_boxes),
-        Found::Refused(number, place) => unnamed(number, place as u32, 0),
+        Reading::Found(outline) => judge(file, diagram_of(file, outline), by_boxes),
+        Reading::Refused(number, place) => unnamed(number, place as u32, 0),
     }
 }
 
@@ -180,7 +180,7 @@ pub fn answer(file: &[u8], condition: usize, state: usize) -> Single
 {
     let found = find(file);
     match found {
-        Found::Diagram(outline) => tested(file, diagram_of(file, outline), condition, state),
-        Found::Refused(number, place) => Single::Refused(number, place),
+        Reading::Found(outline) => tested(file, diagram_of(file, outline), condition, state),
+        Reading::Refused(number, place) => Single::Refused(number, place),
     }
 }

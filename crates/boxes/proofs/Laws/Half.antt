@@ -22,8 +22,9 @@ use lib.Signed.{ltZ, _≤ℤ_, _<ℤ_, ≤ℤ-refl}
 use Rattle.integers.specs.Radix.{at, offsetOf}
 use Rattle.integers.proofs.Laws.Parts.{ints, by-test, le-or-lt, ≤ℤ-trans, ≤ℤ-antisym}
 use Rattle.integers.proofs.Laws.Radix.{at-above, at-below, offset-less, above-next}
-use Rattle.states.specs.State.{Ranges, Within}
-use Rattle.states.specs.State.Ranges.{none as no-ranges, more as more-ranges}
+use Rattle.states.specs.State.{Within}
+use Rattle.states.specs.Ranges.{Ranges}
+use Rattle.states.specs.Ranges.Ranges.{none as no-ranges, more as more-ranges}
 use Rattle.states.specs.State.Within.{none as no-values, more as more-values}
 use Rattle.boxes.specs.declared.Box.{Box}
 use Rattle.boxes.specs.Box.{Inside, Nested, Part}

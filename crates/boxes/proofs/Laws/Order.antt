@@ -15,8 +15,9 @@ use lib.Signed.{ltZ, _≤ℤ_, _<ℤ_, ≤ℤ-refl}
 use Rattle.integers.specs.Radix.{at}
 use Rattle.integers.proofs.Laws.Parts.{ints, le-or-lt, ≤ℤ-antisym}
 use Rattle.integers.proofs.Laws.Radix.{below-next}
-use Rattle.states.specs.State.{Ranges, Within}
-use Rattle.states.specs.State.Ranges.{none as no-ranges, more as more-ranges}
+use Rattle.states.specs.State.{Within}
+use Rattle.states.specs.Ranges.{Ranges}
+use Rattle.states.specs.Ranges.Ranges.{none as no-ranges, more as more-ranges}
 use Rattle.states.specs.State.Within.{none as no-values, more as more-values}
 use Rattle.states.specs.Number.{numberOf}
 use Rattle.states.proofs.Laws.Order.{Precedes, precedes-less, less-precedes, none-precedes}

@@ -30,7 +30,7 @@ use Rattle.diagrams.specs.Diagram.{Loaded}
 use Rattle.diagrams.proofs.Laws.Diagram.{promised}
 use Rattle.conditions.specs.Edges.{isDouble}
 use Rattle.conditions.specs.Condition.{each, movesOf, openingOf, coveredOf, conditionsOf, totalOf, conditionAt, Listed}
-use Rattle.conditions.specs.Condition.{refusalNumber, nodeNumber, transitionNumber}
+use Rattle.conditions.specs.Condition.{nameOf, refusalNumber, nodeNumber, transitionNumber}
 use Rattle.conditions.specs.Layout.{doubleOf, layoutOf, pairOf}
 use Rattle.conditions.specs.declared.Condition.{Condition}
 use Rattle.conditions.specs.declared.Condition.the-variants.{Start, Entry, Cover, Range, Step, Enabling}
@@ -39,13 +39,13 @@ use Rattle.conditions.proofs.Laws.Each.{each-same, each-length, each-at
 use Rattle.conditions.proofs.Laws.Double.{double-is, double-some, double-none}
 
 -- what a condition speaks of is there
-abbrev pub Parts : List ℕ → Diagram → Condition → Type 0
-Parts file g Start = Unit {0}
-Parts file g Entry = Unit {0}
-Parts file g (Cover n) = n < g .nodes
-Parts file g (Range n t) = (n < g .nodes) × (t < g .transitions)
-Parts file g (Step n t) = (n < g .nodes) × (t < g .transitions)
-Parts file g (Enabling n t) = (n < g .nodes) × (t < g .transitions)
+abbrev pub Parts : Diagram → Condition → Type 0
+Parts g Start = Unit {0}
+Parts g Entry = Unit {0}
+Parts g (Cover n) = n < g .nodes
+Parts g (Range n t) = (n < g .nodes) × (t < g .transitions)
+Parts g (Step n t) = (n < g .nodes) × (t < g .transitions)
+Parts g (Enabling n t) = (n < g .nodes) × (t < g .transitions)
 
 -- ---- the conditions of node n, with double transition d
 module _ (n d : ℕ) where
@@ -329,34 +329,34 @@ module _ (file : List ℕ) (g : Diagram) (r : Loaded file g) where
   unfolding totalOf conditionAt
   listed-number c m = let x = member-at Start m in (x .index, x .below, x .is)
 
-  opening-parts : Parts file g (openingOf g)
+  opening-parts : Parts g (openingOf g)
   unfolding openingOf
   opening-parts = by (propertyOf (g .claim) .entry)
     where
-      by : (b : Bool) → Parts file g (cond b Entry Start)
+      by : (b : Bool) → Parts g (cond b Entry Start)
       by true = tt
       by false = tt
 
-  move-parts : (c : Condition) (n t : ℕ) → n < g .nodes → t < g .transitions → List·Memᴰ c (movesOf file g n t) → Parts file g c
+  move-parts : (c : Condition) (n t : ℕ) → n < g .nodes → t < g .transitions → List·Memᴰ c (movesOf file g n t) → Parts g c
   unfolding movesOf
   move-parts c n t l m h = first (List·Memᴰ·cases-cons h)
     where
-      third : (b : Bool) → List·Memᴰ c (cond b (Enabling n t ∷ []) []) → Parts file g c
+      third : (b : Bool) → List·Memᴰ c (cond b (Enabling n t ∷ []) []) → Parts g c
       third true k = rw (List·Memᴰ·eq-of-singleton k) (l, m)
       third false k = absurd (List·Memᴰ·not-nil k)
 
-      second : (c ≡ Step n t) ⊎ List·Memᴰ c (cond (isDouble file g n t) (Enabling n t ∷ []) []) → Parts file g c
+      second : (c ≡ Step n t) ⊎ List·Memᴰ c (cond (isDouble file g n t) (Enabling n t ∷ []) []) → Parts g c
       second (inl e) = rw e (l, m)
       second (inr k) = third (isDouble file g n t) k
 
-      first : (c ≡ Range n t) ⊎ List·Memᴰ c (Step n t ∷ cond (isDouble file g n t) (Enabling n t ∷ []) []) → Parts file g c
+      first : (c ≡ Range n t) ⊎ List·Memᴰ c (Step n t ∷ cond (isDouble file g n t) (Enabling n t ∷ []) []) → Parts g c
       first (inl e) = rw e (l, m)
       first (inr k) = second (List·Memᴰ·cases-cons k)
 
-  pub listed-parts : (c : Condition) → Listed file g c → Parts file g c
+  pub listed-parts : (c : Condition) → Listed file g c → Parts g c
   listed-parts c m = opened (List·Memᴰ·cases-cons (rw conditions-laid at m))
     where
-      behind : List·Memᴰ c covers ⊎ List·Memᴰ c blocks → Parts file g c
+      behind : List·Memᴰ c covers ⊎ List·Memᴰ c blocks → Parts g c
       behind (inl h) =
           let p = each-in (λ n. Cover n ∷ []) c (layout .covers) 0 h in
           rw (List·Memᴰ·eq-of-singleton (p .listed)) (omega (arith, p .below, layout-bounds .covers))
@@ -365,15 +365,15 @@ module _ (file : List ℕ) (g : Diagram) (r : Loaded file g) where
           let q = each-in (movesOf file g (p .which)) c (g .transitions) 0 (p .listed) in
           move-parts c (p .which) (q .which) (omega (arith, p .from, p .below)) (omega (arith, q .below)) (q .listed)
 
-      opened : (c ≡ openingOf g) ⊎ List·Memᴰ c (covers ++ blocks) → Parts file g c
+      opened : (c ≡ openingOf g) ⊎ List·Memᴰ c (covers ++ blocks) → Parts g c
       opened (inl e) = rw e opening-parts
       opened (inr h) = behind (List·Memᴰ·append-cases covers h)
 
   pub names-small : (c : Condition) → Listed file g c → (nodeNumber c ≤ 255) × (transitionNumber c ≤ 255)
-  unfolding nodeNumber transitionNumber
+  unfolding nameOf
   names-small c m = go c (listed-parts c m) (promised file g r .nodes .1) (promised file g r .transitions)
     where
-      go : (c : Condition) → Parts file g c → g .nodes ≤ 32 → g .transitions ≤ 32 → (nodeNumber c ≤ 255) × (transitionNumber c ≤ 255)
+      go : (c : Condition) → Parts g c → g .nodes ≤ 32 → g .transitions ≤ 32 → (nodeNumber c ≤ 255) × (transitionNumber c ≤ 255)
       go Start p n t = (omega arith, omega arith)
       go Entry p n t = (omega arith, omega arith)
       go (Cover i) p n t = (omega arith, omega arith)
@@ -382,7 +382,7 @@ module _ (file : List ℕ) (g : Diagram) (r : Loaded file g) where
       go (Enabling i j) p n t = (omega (arith, p .0), omega (arith, p .1))
 
 pub refusal-above : (c : Condition) → 13 ≤ refusalNumber c
-unfolding refusalNumber
+unfolding nameOf
 refusal-above Start = omega arith
 refusal-above Entry = omega arith
 refusal-above (Cover n) = omega arith

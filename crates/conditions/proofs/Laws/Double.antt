@@ -17,6 +17,8 @@ use borrow.Author.Tests.{eq-eqb, ne-eqb, eqb-true, eqb-false, lt-ltb, le-ltb, no
 use lib.Dec.{eqb}
 use Rattle.shapes.specs.declared.Edge.{Edge}
 use Rattle.shapes.specs.Property.{propertyOf}
+use Rattle.shapes.specs.Edge.{doubleFrom}
+use Rattle.shapes.proofs.Laws.Edge.{double-from, from-double}
 use Rattle.diagrams.specs.declared.Diagram.{Diagram}
 use Rattle.diagrams.specs.Diagram.{Loaded, edgeOf}
 use Rattle.diagrams.proofs.Laws.Diagram.{promised}
@@ -80,15 +82,15 @@ module _ (file : List ℕ) (g : Diagram) where
   double-found n = go (decLt (doubleEdge file g n) (g .edges))
     where
       test : ℕ → Bool
-      test e = not (edgeOf file g e .double && eqb (edgeOf file g e .from) n)
+      test e = not (doubleFrom n (edgeOf file g e))
 
       never : (e : ℕ) → edgeOf file g e .from ≡ n → edgeOf file g e .double ≡ true → test e ≡ true → ⊥
-      never e from double passes = false≢true (rw (double, eq-eqb _ _ from) at passes)
+      never e from double passes = false≢true (rw (from-double (edgeOf file g e) double from) at passes)
 
       go : Dec (doubleEdge file g n < g .edges) → Found n
       go (yes l) =
-          let p = and-eq-true-iff _ _ .0 (not-false _ (first-fails test (g .edges) l)) in
-          inl (doubleEdge file g n, record { there = l; from = eqb-true _ _ (p .1); carried = rw (lt-ltb _ _ l); double = p .0 })
+          let p = double-from _ (not-false _ (first-fails test (g .edges) l)) in
+          inl (doubleEdge file g n, record { there = l; from = p .1; carried = rw (lt-ltb _ _ l); double = p .0 })
       go (no l) =
           inr (
             λ t e h. never e (h .from) (h .double) (first-passes test (g .edges) e (omega (arith, h .there))),

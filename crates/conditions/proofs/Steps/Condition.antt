@@ -1,14 +1,13 @@
 -- The search for a node's first double edge, and the conditions by their layout, as the code has it. Assumes nothing.
 use mathlib.Core.Path.{_≡_, sym, ap, _∙_}
-use mathlib.Core.Logic.{_⊎_, inl, inr}
-use mathlib.Core.Bool.{Bool, true, false, not, _&&_, and-false}
+use mathlib.Core.Bool.{true, false, not}
 use mathlib.Core.List.{List}
 use Prim.Native.Nat.{ℕ, _+_, _*_, _-_, _≤_, _<_}
 use native.Mathlib.Decide.{decLt}
 use native.Mathlib.Omega.{arith}
-use borrow.Author.Tests.{eq-eqb, ne-eqb, lt-ltb, le-ltb}
-use lib.Dec.{eqb}
+use borrow.Author.Tests.{lt-ltb, le-ltb}
 use Rattle.shapes.specs.declared.Edge.{Edge}
+use Rattle.shapes.specs.Edge.{doubleFrom}
 use Rattle.diagrams.specs.declared.Diagram.{Diagram}
 use Rattle.diagrams.specs.Diagram.{Loaded, edgeOf}
 use Rattle.diagrams.proofs.Laws.Diagram.{promised}
@@ -20,10 +19,6 @@ use Rattle.truths.proofs.Laws.First.{first-is}
 use Rattle.conditions.proofs.Laws.Double.{double-most}
 use Rattle.conditions.proofs.Laws.Condition.{nodeBy, positionBy, positionOf, position-enabling, position-before, position-after}
 use Rattle.conditions.proofs.Laws.Condition.{Bounds, Move, layout-bounds, total-is, condition-cover, condition-move}
-
--- the edge is a double one from the node
-abbrev pub doubleFrom : ℕ → Edge → Bool
-doubleFrom node e = e .double && eqb (e .from) node
 
 module _ (file : List ℕ) (g : Diagram) (node : ℕ) where
   -- the first e edges are no double edges from the node
@@ -45,22 +40,16 @@ module _ (file : List ℕ) (g : Diagram) (node : ℕ) where
 
     -- the next edge
     module _ (l : e < g .edges) {edge : Edge} (is : edge ≡ edgeOf file g e) where
-      pub passed-more : (edge .double ≡ false) ⊎ (edge .from ≡ node → ⊥) → NotDoubled (e + 1)
+      pub passed-more : doubleFrom node edge ≡ false → NotDoubled (e + 1)
       passed-more f = record { most = omega arith; none = λ k m. go k m (decLt k e) }
         where
-          fails : (edge .double ≡ false) ⊎ (edge .from ≡ node → ⊥) → doubleFrom node edge ≡ false
-          fails (inl d) = rw d
-          fails (inr n) = rw (ne-eqb _ _ n) (and-false (edge .double))
-
           go : (k : ℕ) → k < e + 1 → Dec (k < e) → doubleFrom node (edgeOf file g k) ≡ false
           go k m (yes q) = p .none k q
-          go k m (no q) = let z : k ≡ e = omega arith in rw (z, ← is) (fails f)
+          go k m (no q) = let z : k ≡ e = omega arith in rw (z, ← is) f
 
-      pub passed-here : edge .double ≡ true → edge .from ≡ node → edge .transition ≡ doubleOf file g node
+      pub passed-here : doubleFrom node edge ≡ true → edge .transition ≡ doubleOf file g node
       unfolding doubleOf
-      passed-here d n =
-          let found : doubleFrom node (edgeOf file g e) ≡ true = rw (← is, d) (eq-eqb _ _ n) in
-          rw (passed-found (λ m. found), lt-ltb e (g .edges) l) (ap (λ (x : Edge). x .transition) is)
+      passed-here d = rw (passed-found (λ m. rw (← is) d), lt-ltb e (g .edges) l) (ap (λ (x : Edge). x .transition) is)
 
 pub double-few : (file : List ℕ) (g : Diagram) → Loaded file g → (n : ℕ) {d : ℕ} → d ≡ doubleOf file g n → d ≤ 32
 double-few file g r n is = rw is (omega (arith, double-most file g r n, promised file g r .transitions))

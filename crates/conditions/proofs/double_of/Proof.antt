@@ -1,8 +1,9 @@
 -- `conditions::double_of` meets its contract: the edges passed are no double edges from the node.
 -- Assumes nothing.
-use mathlib.Core.Logic.{⊎-elim, inl, inr}
+use mathlib.Core.Path.{sym, _∙_}
 use Prim.Native.Nat.{_-_}
 use native.Mathlib.Omega.{arith}
+use borrow.Author.Needs.{needs}
 use Rattle.conditions.proofs.Steps.Condition.{NotDoubled, passed-begin, passed-more, passed-here, passed-end}
 use Rattle.conditions.proofs.double_of.Statement.{statement}
 use Rattle.conditions.proofs.double_of.Tie as tie
@@ -19,10 +20,13 @@ loop-holds c = passed-begin _ _ _
 edge-of-requires : tie.Need-edge-of-requires Inv-loop μ-loop
 edge-of-requires c κs = (c .before .before .before .before .pre, c .if1 .taken)
 
+double-from-requires : tie.Need-double-from-requires Inv-loop μ-loop
+double-from-requires c κs = search needs
+
 returns : tie.Need-returns Inv-loop μ-loop
 returns c =
-    passed-here _ _ _ (c .before .before .before .before .before .before .loop .inv) (c .before .before .before .before .if1 .taken)
-    (c .before .before .before .edge-of .ensures) (c .before .before .if2 .taken) (c .if3 .taken)
+    passed-here _ _ _ (c .before .before .before .before .before .loop .inv) (c .before .before .before .if1 .taken)
+    (c .before .before .edge-of .ensures) (sym (c .before .double-from .ensures) ∙ c .if2 .taken)
 
 add-e : tie.Need-add-e Inv-loop μ-loop
 add-e c = omega arith
@@ -32,8 +36,8 @@ loop-less c = omega arith
 
 loop-again : tie.Need-loop-again Inv-loop μ-loop
 loop-again c =
-    passed-more _ _ _ (c .before .before .before .before .loop .inv) (c .before .before .if1 .taken) (c .before .edge-of .ensures)
-    (⊎-elim (λ w. inr (w .2 .left)) (λ w. inl (w .left)) (c .if2 .came))
+    passed-more _ _ _ (c .before .before .before .before .before .loop .inv) (c .before .before .before .if1 .taken)
+    (c .before .before .edge-of .ensures) (sym (c .before .double-from .ensures) ∙ c .if2 .left)
 
 returns-2 : tie.Need-returns-2 Inv-loop μ-loop
 returns-2 c = passed-end _ _ _ (c .before .before .loop .inv) (c .if1 .left)
@@ -46,6 +50,7 @@ double-of-spec =
     μ-loop
     loop-holds
     edge-of-requires
+    double-from-requires
     returns
     add-e
     loop-less

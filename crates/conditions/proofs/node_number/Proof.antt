@@ -1,7 +1,7 @@
 -- `conditions::node_number` meets its contract, by the condition.
 -- Assumes nothing.
 use native.Mathlib.Omega.{arith}
-use Rattle.conditions.specs.Condition.{nodeNumber}
+use Rattle.conditions.specs.Condition.{nameOf}
 use borrow.Author.Needs.{needs}
 use Rattle.conditions.proofs.node_number.Statement.{statement}
 use Rattle.conditions.proofs.node_number.Tie as tie
@@ -16,52 +16,52 @@ enum-known-condition : tie.Need-enum-known-condition
 enum-known-condition c = search needs
 
 cast-result : tie.Need-cast-result
-unfolding nodeNumber
+unfolding nameOf
 cast-result c = record { fits = omega (arith, rw (c .before .condition .given .1) at (c .before .before .before .pre)) }
 
 enum-known-condition-2 : tie.Need-enum-known-condition-2
 enum-known-condition-2 c = search needs
 
 cast-result-2 : tie.Need-cast-result-2
-unfolding nodeNumber
+unfolding nameOf
 cast-result-2 c = record { fits = omega (arith, rw (c .before .condition2 .given .1) at (c .before .before .before .pre)) }
 
 enum-known-condition-3 : tie.Need-enum-known-condition-3
 enum-known-condition-3 c = search needs
 
 cast-result-3 : tie.Need-cast-result-3
-unfolding nodeNumber
+unfolding nameOf
 cast-result-3 c = record { fits = omega (arith, rw (c .before .condition3 .given .1) at (c .before .before .before .pre)) }
 
 enum-known-condition-4 : tie.Need-enum-known-condition-4
 enum-known-condition-4 c = search needs
 
 cast-result-4 : tie.Need-cast-result-4
-unfolding nodeNumber
+unfolding nameOf
 cast-result-4 c = record { fits = omega (arith, rw (c .before .condition4 .given .1) at (c .before .before .before .pre)) }
 
 returns : tie.Need-returns
-unfolding nodeNumber
+unfolding nameOf
 returns c = rw (c .enum-told .given .1)
 
 returns-2 : tie.Need-returns-2
-unfolding nodeNumber
+unfolding nameOf
 returns-2 c = rw (c .enum-told2 .given .1)
 
 returns-3 : tie.Need-returns-3
-unfolding nodeNumber
+unfolding nameOf
 returns-3 c = rw (c .before .condition .given .1)
 
 returns-4 : tie.Need-returns-4
-unfolding nodeNumber
+unfolding nameOf
 returns-4 c = rw (c .before .condition2 .given .1)
 
 returns-5 : tie.Need-returns-5
-unfolding nodeNumber
+unfolding nameOf
 returns-5 c = rw (c .before .condition3 .given .1)
 
 returns-6 : tie.Need-returns-6
-unfolding nodeNumber
+unfolding nameOf
 returns-6 c = rw (c .before .condition4 .given .1)
 
 pub node-number-spec : {M : Type 1} → statement M

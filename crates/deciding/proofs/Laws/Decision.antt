@@ -16,14 +16,13 @@ use native.Mathlib.Omega.{arith}
 use lib.ListN.{length}
 use lib.IntN.{ℤ}
 use Rattle.diagrams.specs.declared.Diagram.{Diagram}
-use Rattle.diagrams.specs.Diagram.{Loaded}
-use Rattle.diagrams.specs.Diagram.{State}
+use Rattle.diagrams.specs.Diagram.{Loaded, State}
 use Rattle.conditions.specs.Condition.{totalOf, conditionAt, Listed}
 use Rattle.conditions.specs.declared.Condition.{Condition}
 use Rattle.conditions.proofs.Laws.Condition.{condition-listed, listed-number, refusal-above}
 use Rattle.testing.specs.Holding.{conditionHolds}
 use Rattle.report.specs.declared.Verdict.{Verdict}
-use Rattle.verdicts.specs.Verdict.{stateCount, stateAt, stateNumber, unnamedOf, isTrue, judgedOf}
+use Rattle.verdicts.specs.Verdict.{stateAt, stateNumber, unnamedOf, isTrue, judgedOf}
 use Rattle.verdicts.proofs.Laws.Verdict.{state-numbered, number-state, true-at, true-holds, judged-whole, Broken, Whole, judged-cases}
 use Rattle.deciding.specs.Decision.{Everywhere, Names, testsMade, Judges}
 use Rattle.deciding.proofs.Laws.Tests.{made-whole, made-broken}
@@ -55,7 +54,7 @@ module _ (file : List ℕ) (g : Diagram) where
     by-number c n h state s l = rw (number-state file g r state s .1) at (h (stateNumber g state) l)
 
     pub true-everywhere : (c : Condition) → isTrue file g c ≡ true → Everywhere file g c
-    true-everywhere c t state s = by-number c (stateCount g) (true-holds file g c t) state s (number-state file g r state s .0)
+    true-everywhere c t state s = by-number c (g .states) (true-holds file g c t) state s (number-state file g r state s .0)
 
     pub everywhere-true : (c : Condition) → Everywhere file g c → isTrue file g c ≡ true
     everywhere-true c h = true-at file g c (λ n l. h (stateAt g n) (state-numbered file g r n l .0))
@@ -69,7 +68,7 @@ module _ (file : List ℕ) (g : Diagram) where
         go (inr w) = let x = listed-number file g r c m in rw (x .2) at (true-everywhere (conditionAt file g (x .0)) (w .all (x .0) (x .1)))
 
     pub accepts : ((c : Condition) → Listed file g c → Everywhere file g c)
-        → judgedOf file g ≡ unnamedOf 0 (totalOf file g) (totalOf file g * stateCount g)
+        → judgedOf file g ≡ unnamedOf 0 (totalOf file g) (totalOf file g * g .states)
     accepts h = judged-whole file g (λ k l. everywhere-true (conditionAt file g k) (h (conditionAt file g k) (condition-listed file g r k l)))
 
     -- ---- refusal

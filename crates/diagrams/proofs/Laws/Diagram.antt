@@ -16,50 +16,35 @@ use lib.Dec.{eqb}
 use Rattle.records.specs.Kind.{truth as truthSort}
 use Rattle.records.specs.Place.{placeOf, placesOf}
 use Rattle.truths.proofs.Laws.Table.{table-at}
-use Rattle.sections.specs.Section.{claimAt, phasesOr, expressionsOf, nodeOf}
+use Rattle.sections.specs.Section.{claimAt, propertyAt, phasesOr, expressionsOf, nodeOf}
 use Rattle.sections.proofs.Laws.Property.{property-nodes, phases-counted, expressions-are}
 use Rattle.shapes.specs.declared.Outline.{Outline}
 use Rattle.intervals.proofs.Laws.Expression.{expression-within}
 use Rattle.ranges.proofs.Laws.Range.{ends-length, states-idle}
-use Rattle.reading.specs.declared.Reading.{Reading}
+use Rattle.shapes.specs.declared.Reading.{Reading}
 use Rattle.reading.specs.Read.{readOf}
 use Rattle.records.specs.Record.{fieldA}
-use Rattle.reading.specs.Edge.{property, justOf as found-just}
+use Rattle.reading.specs.Edge.{justOf as found-just}
 use Rattle.reading.specs.Readable.{edgeOf as found-edge}
 use Rattle.reading.proofs.Laws.Refusal.{read-refuses}
 use Rattle.reading.proofs.Laws.Readable as readable
 use Rattle.evaluating.proofs.Laws.Readable as evaluable
 use Rattle.diagrams.specs.declared.Diagram.{Diagram}
-use Rattle.diagrams.specs.declared.Found.{Found}
-use Rattle.diagrams.specs.Diagram.{foundBy, foundOf, assertionsOf, diagramOf, Loaded, Readable, edgeOf}
+use Rattle.diagrams.specs.Diagram.{foundOf, assertionsOf, diagramOf, Loaded, Readable, edgeOf}
 use Rattle.diagrams.specs.Truth.{claimedAt, qNumber, qAt}
 use Rattle.diagrams.specs.System.{stepAt, justOf}
 use Rattle.diagrams.specs.Promise.{EdgeRight, DoubleTransition, TruthRight, Promise}
 
-pub found-read : (file : List ℕ) (o : Outline) → foundOf file ≡ Found.Diagram o → readOf file ≡ Reading.Found o
-unfolding foundOf foundBy
-found-read file o e = go (readOf file) e
-  where
-    go : (r : Reading) → foundBy r ≡ Found.Diagram o → r ≡ Reading.Found o
-    go (Reading.Found p) is = let z : p ≡ o = cc in rw z refl
-    go (Reading.Refused number place) is = let z : _≡_ {A = ℕ} 0 1 = cc in absurd (omega arith)
+pub found-read : (file : List ℕ) (o : Outline) → foundOf file ≡ Reading.Found o → readOf file ≡ Reading.Found o
+unfolding foundOf
+found-read file o e = e
 
 -- a refusal of reading: a number of 2 or more, and a place of 4,096 at most
-pub find-refuses : (file : List ℕ) (number place : ℕ) → foundOf file ≡ Found.Refused number place → (2 ≤ number) × (place ≤ 4096)
-unfolding foundOf foundBy
-find-refuses file number place e = go (readOf file) refl e
-  where
-    same : (a b c d : ℕ) → Found.Refused a b ≡ Found.Refused c d → (a ≡ c) × (b ≡ d)
-    same a b c d e = (cc, cc)
+pub find-refuses : (file : List ℕ) (number place : ℕ) → foundOf file ≡ Reading.Refused number place → (2 ≤ number) × (place ≤ 4096)
+unfolding foundOf
+find-refuses file number place e = let r = read-refuses file number place e in (r .from, r .within)
 
-    go : (r : Reading) → readOf file ≡ r → foundBy r ≡ Found.Refused number place → (2 ≤ number) × (place ≤ 4096)
-    go (Reading.Found o) is f = let z : _≡_ {A = ℕ} 0 1 = cc in absurd (omega arith)
-    go (Reading.Refused n p) is f =
-        let r = read-refuses file n p is in
-        let s = same n p number place f in
-        (omega (arith, r .from, s .0), omega (arith, r .within, s .1))
-
-pub diagram-loaded : (file : List ℕ) (o : Outline) → foundOf file ≡ Found.Diagram o → Loaded file (diagramOf file o)
+pub diagram-loaded : (file : List ℕ) (o : Outline) → foundOf file ≡ Reading.Found o → Loaded file (diagramOf file o)
 diagram-loaded file o e = record { outline = o; found = e; is = refl }
 
 pub readable-loaded : (file : List ℕ) (g : Diagram) → Readable file g → Loaded file g
@@ -84,7 +69,8 @@ module _ (file : List ℕ) (o : Outline) (r : readOf file ≡ Reading.Found o) w
   unfolding diagramOf assertionsOf
   node-at n l =
       let m = readable.nodes-within file o r .1 in
-      table-at 32 0 (λ i. getD (placesOf (nodeOf file (o .vars) (property file o .ranks)) (o .nodes) (o .node)) i 0 + 1) (o .nodes) n (omega arith) l
+      let places = placesOf (nodeOf file (o .vars) (propertyAt file (o .property) .ranks)) (o .nodes) (o .node) in
+      table-at 32 0 (λ i. getD places i 0 + 1) (o .nodes) n (omega arith) l
       ∙ ap (λ (k : ℕ). k + 1) (readable.node-place file o r n l)
 
   assertion : (n : ℕ) → n < o .nodes → TruthRight file of (getD (of .assertions) n 0)
@@ -117,10 +103,10 @@ module _ (file : List ℕ) (o : Outline) (r : readOf file ≡ Reading.Found o) w
 
   q-there : (n : ℕ) → n < o .nodes → qNumber (claimAt file (o .property)) n < expressionsOf file (o .property)
   unfolding qNumber
-  q-there n l = by (property file o .phased) refl
+  q-there n l = by (propertyAt file (o .property) .phased) refl
     where
-      by : (b : Bool) → property file o .phased ≡ b
-          → cond (property file o .entry) 1 0 + cond (property file o .phased) n 0 < expressionsOf file (o .property)
+      by : (b : Bool) → propertyAt file (o .property) .phased ≡ b
+          → cond (propertyAt file (o .property) .entry) 1 0 + cond (propertyAt file (o .property) .phased) n 0 < expressionsOf file (o .property)
       by true is = rw (is, expressions-are file (o .property), phases-counted file (o .property) 1 is) (omega (arith, readable.phases file o r is))
       by false is = rw (is, expressions-are file (o .property)) (omega (arith, some-phases))
 
@@ -156,7 +142,7 @@ module _ (file : List ℕ) (o : Outline) (r : readOf file ≡ Reading.Found o) w
   unfolding diagramOf edgeOf
   new = readable.edge-new file o r
 
-  doubled : property file o .doubles ≡ true → (n : ℕ) → property file o .from ≤ n → n < o .nodes → DoubleTransition file of n
+  doubled : propertyAt file (o .property) .doubles ≡ true → (n : ℕ) → propertyAt file (o .property) .from ≤ n → n < o .nodes → DoubleTransition file of n
   unfolding diagramOf edgeOf
   doubled d n k l =
       let x = readable.double-transition file o r d n k l in
@@ -204,7 +190,7 @@ loaded-once file g h a b =
     let same : a .outline ≡ b .outline = outline-is (a .outline) (b .outline) (sym (a .found) ∙ b .found) in
     a .is ∙ ap (diagramOf file) same ∙ sym (b .is)
   where
-    outline-is : (x y : Outline) → Found.Diagram x ≡ Found.Diagram y → x ≡ y
+    outline-is : (x y : Outline) → Reading.Found x ≡ Reading.Found y → x ≡ y
     outline-is x y e = cc
 
 pub promised : (file : List ℕ) (g : Diagram) → Loaded file g → Promise file g

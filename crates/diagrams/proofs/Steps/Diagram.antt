@@ -14,15 +14,14 @@ use Rattle.records.specs.Place.{placesOf}
 use Rattle.truths.proofs.Laws.Table.{table-none, table-more}
 use Rattle.sections.specs.Section.{propertyAt, nodeOf}
 use Rattle.records.proofs.Laws.Record.{kind-is}
-use Rattle.states.specs.State.{Ranges}
+use Rattle.states.specs.Ranges.{Ranges}
 use Rattle.ranges.specs.Range.{lowsOf, highsOf}
 use Rattle.states.specs.Number.{countOf}
-use Rattle.reading.specs.declared.Reading.{Reading}
+use Rattle.shapes.specs.declared.Reading.{Reading}
 use Rattle.reading.specs.Read.{readOf}
 use Rattle.reading.proofs.Laws.Readable as readable
 use Rattle.evaluating.proofs.Laws.Readable as evaluable
 use Rattle.diagrams.specs.declared.Diagram.{Diagram}
-use Rattle.diagrams.specs.declared.Found.{Found}
 use Rattle.diagrams.specs.Diagram.{foundOf, assertionsOf, Loaded}
 use Rattle.diagrams.specs.Promise.{Promise}
 use Rattle.diagrams.proofs.Laws.Diagram.{found-read, promised}
@@ -38,7 +37,7 @@ unfolding assertionsOf
 assertions-more nodes n is l = rw is (table-more 32 0 (λ i. getD nodes i 0 + 1) n l)
 
 -- ---- what is asked
-module _ (file : List ℕ) (o : Outline) (e : foundOf file ≡ Found.Diagram o) where
+module _ (file : List ℕ) (o : Outline) (e : foundOf file ≡ Reading.Found o) where
   abbrev r : readOf file ≡ Reading.Found o
   r = found-read file o e
 

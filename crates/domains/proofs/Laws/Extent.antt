@@ -14,11 +14,11 @@ use lib.Signed.{leZ, ltZ, _≤ℤ_, ≤ℤ-refl}
 use mir.Syntax.{Width}
 use mir.Val.{SFits}
 use Rattle.integers.specs.Tests.{eqZ}
-use Rattle.integers.specs.Interval.{In, bounds, Bounded}
+use Rattle.integers.specs.Interval.{bounds}
+use Rattle.integers.specs.Inside.{In, Bounded}
 use Rattle.integers.proofs.Laws.Parts.{by-test, ints, within-fits}
 use Rattle.integers.proofs.Laws.Equality.{eqZ-true, eqZ-refl}
-use Rattle.intervals.specs.Interval.{interval}
-use Rattle.intervals.specs.Interval.{combine as combineOf}
+use Rattle.intervals.specs.Interval.{interval, combine as combineOf}
 use Rattle.intervals.proofs.Laws.Combine.{combine-in}
 use Rattle.expressions.specs.Expression.{indicatorOf, compareOf}
 use Rattle.expressions.proofs.Laws.Connect.{indicator-true, indicator-false, compare-by}

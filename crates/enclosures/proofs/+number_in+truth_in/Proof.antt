@@ -5,12 +5,12 @@ use Prim.Native.Nat.{ℕ, _<_}
 use native.Mathlib.Omega.{arith}
 use mir.Syntax.{w64}
 use Rattle.integers.proofs.Laws.Parts.{back}
-use Rattle.records.specs.declared.kinds.Form.the-variants.{Arithmetic, Indicator, Connective, Comparison}
+use Rattle.records.specs.Form.Form.{Arithmetic, Indicator, Connective, Comparison}
 use Rattle.records.specs.Record.{fieldA}
-use Rattle.records.specs.Kind.{formAt}
 use Rattle.records.specs.Kind.{number as numberSort, truth as truthSort}
+use Rattle.records.specs.Form.{formAt}
 use Rattle.records.proofs.Laws.Kind.{constant-form, variable-form, arithmetic-form, indicator-form, literal-form, negation-form, connective-form}
-use Rattle.records.proofs.Laws.Kind.{comparison-form, arithmetic-row, indicator-row, negation-row, connective-row, comparison-row}
+use Rattle.records.proofs.Laws.Kind.{comparison-form}
 use Rattle.expressions.proofs.Laws.Expression.{fits-record}
 use Rattle.expressions.proofs.Laws.Operand.{number-kinds, truth-kinds, Two, there, level, one, two}
 use Rattle.domains.proofs.Laws.Seen.{literal-true, literal-false}
@@ -102,13 +102,13 @@ module _ (t : ℕ) where
       → let m = c .before .before .before in let a = m .before .before .before .args in
       Two (a .levels) numberSort numberSort Arithmetic (a .part .now) (a .spans .now) (a .at) (m .after .result .now) (a .b .low)
   combined c = let m = c .before .before .before in
-      two _ _ _ _ _ _ (m .before .before .before .pre .1) (arithmetic-form (omega arith) (omega arith)) (m .after .ensures) arithmetic-row
+      two _ _ _ _ _ _ (m .before .before .before .pre .1) (arithmetic-form (omega arith) (omega arith)) (m .after .ensures) refl
 
   connected : (c : truth-in-lts.Then2 (truth-in-claims t) (truth-in-at t) truth-in.Post)
       → let m = c .before .before .before in let a = m .before .before .before .args in
       Two (a .levels) truthSort truthSort Connective (a .part .now) (a .spans .now) (a .at) (m .after .result .now) (a .b .low)
   connected c = let m = c .before .before .before in
-      two _ _ _ _ _ _ (m .before .before .before .pre .1) (connective-form (omega arith) (omega arith)) (m .after .ensures) connective-row
+      two _ _ _ _ _ _ (m .before .before .before .pre .1) (connective-form (omega arith) (omega arith)) (m .after .ensures) refl
 
   compared : (c : truth-in-lts.Joined1 (truth-in-claims t) (truth-in-at t) truth-in.Post)
       → let m = c .before .before in let a = m .before .before .before .args in
@@ -116,7 +116,7 @@ module _ (t : ℕ) where
   compared c = let m = c .before .before in
       let h = m .before .before .before .pre .1 in
       let k = truth-kinds _ _ _ (h .0) in
-      two _ _ _ _ _ _ h (comparison-form (⊎-elim (λ w. absurd (omega arith)) (λ w. omega arith) (c .if1 .came)) (k .1)) (m .after .ensures) comparison-row
+      two _ _ _ _ _ _ h (comparison-form (⊎-elim (λ w. absurd (omega arith)) (λ w. omega arith) (c .if1 .came)) (k .1)) (m .after .ensures) refl
 
   indicated : (c : number-in-lts.Joined1 (number-in-claims t) (number-in-at t) number-in.Post)
       → formAt (c .before .before .before .before .before .args .part .now) 0 ≡ Indicator
@@ -193,7 +193,7 @@ module _ (t : ℕ) where
 
   number-in-truth-in-requires : number-in-lts.Need-truth-in-requires (number-in-claims t) (number-in-at t) number-in.Post
   number-in-truth-in-requires c κs = let h = c .before .before .before .before .before .pre .1 in let l = level _ _ _ _ _ _ h in
-      (omega (arith, c .before .before .before .before .before .pre .0), one _ _ _ _ _ _ h (indicated c) (c .before .before .after .ensures) indicator-row)
+      (omega (arith, c .before .before .before .before .before .pre .0), one _ _ _ _ _ _ h (indicated c) (c .before .before .after .ensures) refl)
 
   number-in-indicator-requires : number-in-lts.Need-indicator-requires (number-in-claims t) (number-in-at t) number-in.Post
   number-in-indicator-requires c κs = tt
@@ -234,7 +234,7 @@ module _ (t : ℕ) where
 
   truth-in-truth-in-requires : truth-in-lts.Need-truth-in-requires (truth-in-claims t) (truth-in-at t) truth-in.Post
   truth-in-truth-in-requires c κs = let h = c .before .before .before .before .pre .1 in let l = level _ _ _ _ _ _ h in
-      (omega (arith, c .before .before .before .before .pre .0), one _ _ _ _ _ _ h (negation-form (c .match .keys3)) (c .before .after .ensures) negation-row)
+      (omega (arith, c .before .before .before .before .pre .0), one _ _ _ _ _ _ h (negation-form (c .match .keys3)) (c .before .after .ensures) refl)
 
   truth-in-opposite-requires : truth-in-lts.Need-opposite-requires (truth-in-claims t) (truth-in-at t) truth-in.Post
   truth-in-opposite-requires c κs = tt

@@ -13,15 +13,17 @@ use Prim.Native.Nat.{ℕ, zero, suc}
 use native.Mathlib.Omega.{arith}
 use lib.ListN.{getD}
 use lib.IntN.{ℤ, pos}
-use Rattle.integers.specs.Interval.{In, bounds, Bounded}
-use Rattle.records.specs.declared.kinds.Form.{Form}
-use Rattle.records.specs.declared.kinds.Form.the-variants.{Constant, Variable, Arithmetic, Indicator, Literal, Negation, Connective, Comparison, Unfit}
+use Rattle.integers.specs.Interval.{bounds}
+use Rattle.integers.specs.Inside.{In, Bounded}
+use Rattle.records.specs.Form.{Form}
+use Rattle.records.specs.Form.Form.{Constant, Variable, Arithmetic, Indicator, Literal, Negation, Connective, Comparison, Unfit}
 use Rattle.records.specs.Record.{kindAt, fieldA}
-use Rattle.records.specs.Kind.{formAt}
 use Rattle.records.specs.Kind.{number as numberSort, truth as truthSort}
-use Rattle.records.proofs.Laws.Kind.{arithmetic-row, indicator-row, negation-row, connective-row, comparison-row, number-forms, truth-forms}
+use Rattle.records.specs.Form.{formAt}
+use Rattle.records.proofs.Laws.Kind.{number-forms, truth-forms}
 use Rattle.intervals.specs.Interval.{interval}
-use Rattle.expressions.specs.Expression.{partAt, number, truth, holdsOf, Fits}
+use Rattle.expressions.specs.Expression.{partAt, number, truth, holdsOf}
+use Rattle.expressions.specs.Fits.{Fits}
 use Rattle.expressions.proofs.Laws.Expression.{number-constant, number-variable, number-arithmetic, number-indicator, truth-literal, truth-negation}
 use Rattle.expressions.proofs.Laws.Expression.{truth-connective, truth-comparison, holds-is, fits-level, fits-record, fits-small, fits-one, fits-two}
 use Rattle.expressions.proofs.Laws.Sound.{constant-in}
@@ -99,7 +101,7 @@ module _ {b : Box} {state : List ℤ} (inside : Inside b state) where
       unfolding numberInBy
       arithmetic-lies is =
           let n = number-arithmetic {below = levels} refl part state is in
-          let o = fits-two {below = levels} refl part state is numberSort h arithmetic-row in
+          let o = fits-two {below = levels} refl part state is numberSort h refl in
           rw (number-in-opens {below = levels} refl part b is, n)
           (combine-in-extent _ _ _ (rw n at small) (ih .numbers _ (o .0)) (ih .numbers _ (o .1)))
 
@@ -107,12 +109,12 @@ module _ {b : Box} {state : List ℤ} (inside : Inside b state) where
       unfolding numberInBy
       indicator-lies is =
           let n = number-indicator {below = levels} refl part state is in
-          let o = fits-one {below = levels} refl part state is numberSort h indicator-row in
+          let o = fits-one {below = levels} refl part state is numberSort h refl in
           rw (number-in-opens {below = levels} refl part b is, n) (indicator-in-extent _ _ (ih .truths _ o) (rw n at small))
 
       number-lies : In (number (suc levels) part state) (numberIn (suc levels) part b .span)
       number-lies =
-          number-forms Lies constant-lies variable-lies arithmetic-lies indicator-lies (formAt part 0)
+          number-forms Lies (kindAt part 0) constant-lies variable-lies arithmetic-lies indicator-lies
           (fits-record (suc levels) numberSort part state h .sort) refl
 
     -- ---- and a truth
@@ -128,26 +130,26 @@ module _ {b : Box} {state : List ℤ} (inside : Inside b state) where
       negation-said : Said Negation
       unfolding truthInBy
       negation-said is =
-          let o = fits-one {below = levels} refl part state is truthSort h negation-row in
+          let o = fits-one {below = levels} refl part state is truthSort h refl in
           rw (truth-in-opens {below = levels} refl part b is, truth-negation {below = levels} refl part state is) (opposite-says _ _ (ih .truths _ o))
 
       connective-said : Said Connective
       unfolding truthInBy
       connective-said is =
-          let o = fits-two {below = levels} refl part state is truthSort h connective-row in
+          let o = fits-two {below = levels} refl part state is truthSort h refl in
           rw (truth-in-opens {below = levels} refl part b is, truth-connective {below = levels} refl part state is)
           (connect-says _ _ _ _ _ (ih .truths _ (o .0)) (ih .truths _ (o .1)))
 
       comparison-said : Said Comparison
       unfolding truthInBy
       comparison-said is =
-          let o = fits-two {below = levels} refl part state is truthSort h comparison-row in
+          let o = fits-two {below = levels} refl part state is truthSort h refl in
           rw (truth-in-opens {below = levels} refl part b is, truth-comparison {below = levels} refl part state is)
           (compare-says _ _ _ _ _ (ih .numbers _ (o .0)) (ih .numbers _ (o .1)))
 
       truth-is-said : Says (truthIn (suc levels) part b) (truth (suc levels) part state)
       truth-is-said =
-          truth-forms Said literal-said negation-said connective-said comparison-said (formAt part 0)
+          truth-forms Said (kindAt part 0) literal-said negation-said connective-said comparison-said
           (fits-record (suc levels) truthSort part state h .sort) refl
 
   sound : (levels : ℕ) → Sound levels

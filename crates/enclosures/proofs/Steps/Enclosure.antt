@@ -6,10 +6,10 @@ use mathlib.Core.Bool.{true}
 use Prim.Native.Nat.{ℕ, suc, _+_, _-_}
 use lib.ListN.{getD}
 use lib.IntN.{pos}
-use Rattle.records.specs.declared.kinds.Form.{Form}
-use Rattle.records.specs.declared.kinds.Form.the-variants.{Constant, Variable, Arithmetic, Indicator, Literal, Negation, Connective, Comparison}
+use Rattle.records.specs.Form.{Form}
+use Rattle.records.specs.Form.Form.{Constant, Variable, Arithmetic, Indicator, Literal, Negation, Connective, Comparison}
 use Rattle.records.specs.Record.{kindAt, fieldA, valueB}
-use Rattle.records.specs.Kind.{formOf, formAt}
+use Rattle.records.specs.Form.{formOf, formAt}
 use Rattle.expressions.specs.Expression.{partAt}
 use Rattle.expressions.proofs.Laws.Expression.{first-is}
 use Rattle.expressions.proofs.Laws.Operand.{Two}

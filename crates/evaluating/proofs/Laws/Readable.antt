@@ -18,24 +18,28 @@ use native.Mathlib.Omega.{arith}
 use lib.IntN.{ℤ, pos}
 use lib.ListN.{length, getD}
 use Rattle.integers.specs.declared.Interval.{Interval}
-use Rattle.integers.specs.Interval.{In}
+use Rattle.integers.specs.Inside.{In}
 use Rattle.shapes.specs.declared.Outline.{Outline}
 use Rattle.records.specs.Record.{valueB, valueC}
 use Rattle.records.specs.Kind.{number as numberSort, truth as truthSort}
 use Rattle.sections.specs.Section.{expressionsOf}
-use Rattle.reading.specs.declared.Reading.{Reading}
+use Rattle.shapes.specs.declared.Reading.{Reading}
 use Rattle.intervals.specs.Interval.{interval}
 use Rattle.reading.specs.Read.{readOf}
 use Rattle.intervals.specs.Expression.{Expression}
 use Rattle.reading.specs.Readable.{Assignments, Transition}
 use Rattle.reading.proofs.Laws.Readable as readable
-use Rattle.expressions.specs.Expression.{partAt, Fits}
-use Rattle.states.specs.State.{Ranges}
-use Rattle.ranges.specs.Range.{lowsOf, highsOf, State}
-use Rattle.states.specs.Number.{countOf, stateOf, numberOf, advanceOf}
+use Rattle.expressions.specs.Expression.{partAt}
+use Rattle.expressions.specs.Fits.{Fits}
+use Rattle.states.specs.Ranges.{Ranges}
+use Rattle.ranges.specs.Range.{lowsOf, highsOf}
+use Rattle.ranges.specs.State.{State}
+use Rattle.states.specs.Number.{countOf, stateOf, numberOf}
+use Rattle.states.specs.Advance.{advanceOf}
 use Rattle.evaluating.specs.declared.Assignment.{Assignment}
-use Rattle.evaluating.specs.Transition.{assignmentList, enabledOf, successorOf}
-use Rattle.evaluating.specs.Transition.{AssignmentsFit, TransitionFits}
+use Rattle.evaluating.specs.Transition.{assignmentList}
+use Rattle.evaluating.specs.Step.{successorOf, enabledOf}
+use Rattle.evaluating.specs.Fits.{AssignmentsFit, TransitionFits}
 use Rattle.expressions.proofs.Laws.Sound.{expression-fits}
 use Rattle.expressions.proofs.Laws.Part.{behind-end}
 use Rattle.states.proofs.Laws.State.{within-at, within-length}

@@ -16,7 +16,8 @@ use Rattle.states.specs.State.{Within}
 use Rattle.expressions.specs.Expression.{holdsOf}
 use Rattle.expressions.proofs.Laws.Expression.{holds-is}
 use Rattle.evaluating.specs.declared.Stepped.{Stepped}
-use Rattle.evaluating.specs.Transition.{guardOf, assignmentList, allInRange, assigned, enabledOf, successorOf, stepOf}
+use Rattle.evaluating.specs.Transition.{assignmentList, allInRange, assigned}
+use Rattle.evaluating.specs.Step.{guardOf, successorOf, enabledOf, stepOf}
 use Rattle.evaluating.proofs.Laws.Transition.{assigned-within}
 
 -- ---- the transition

@@ -26,11 +26,13 @@ use Rattle.records.specs.Kind.{number as numberSort}
 use Rattle.records.proofs.Laws.Record.{kind-is}
 use Rattle.intervals.proofs.Laws.Expression.{expression-within}
 use Rattle.reading.specs.Readable.{Apart, Assignments}
-use Rattle.expressions.specs.Expression.{partAt, behind, number, Fits}
+use Rattle.expressions.specs.Expression.{partAt, behind, number}
+use Rattle.expressions.specs.Fits.{Fits}
 use Rattle.expressions.proofs.Laws.Part.{behind-end}
 use Rattle.evaluating.specs.declared.Assignment.{Assignment}
 use Rattle.states.specs.State.{Within}
-use Rattle.evaluating.specs.Transition.{assignmentAt, assignmentsFrom, assignmentList, inRangeOf, allInRange, assigned, AssignmentsFit}
+use Rattle.evaluating.specs.Transition.{assignmentAt, assignmentsFrom, assignmentList, inRangeOf, allInRange, assigned}
+use Rattle.evaluating.specs.Fits.{AssignmentsFit}
 use Rattle.states.proofs.Laws.State.{within-set}
 
 -- ---- values in range, and the state that they make

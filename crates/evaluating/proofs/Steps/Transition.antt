@@ -10,8 +10,9 @@ use Rattle.evaluating.specs.declared.Assignment.{Assignment}
 use Rattle.evaluating.specs.declared.Assigned.{Assigned}
 use Rattle.evaluating.specs.declared.Stepped.{Stepped}
 use Rattle.expressions.specs.Expression.{behind}
-use Rattle.evaluating.specs.Transition.{assignmentAt, assignmentsFrom, inRangeOf, allInRange, assigned, guardOf, assignmentList, enabledOf}
-use Rattle.evaluating.specs.Transition.{successorOf, assignOf, stepOf, AssignmentsFit}
+use Rattle.evaluating.specs.Transition.{assignmentAt, assignmentsFrom, inRangeOf, allInRange, assigned, assignmentList}
+use Rattle.evaluating.specs.Step.{guardOf, enabledOf, successorOf, assignOf, stepOf}
+use Rattle.evaluating.specs.Fits.{AssignmentsFit}
 use Rattle.evaluating.proofs.Laws.Transition.{list-end, list-none, list-more, fits-more}
 
 -- ---- in the loop: what is left to do to `next` gives what all the assignments do to `state`

@@ -5,7 +5,7 @@ use native.Mathlib.Omega.{arith}
 use lib.ListN.{length, getD}
 use borrow.Author.Tests.{not-true, not-false}
 use Rattle.records.specs.Kind.{truth as truthSort}
-use Rattle.evaluating.specs.Transition.{guardOf}
+use Rattle.evaluating.specs.Step.{guardOf}
 use Rattle.expressions.proofs.Laws.Expression.{fits-here}
 use Rattle.expressions.proofs.Laws.Part.{take-rest, lent, entry, behind-is, behind-within}
 use Rattle.evaluating.proofs.Steps.Transition.{step-off, step-on}

@@ -8,12 +8,12 @@ use lib.IntN.{_+ℤ_, _-ℤ_, _*ℤ_}
 use mir.Syntax.{w16, w64}
 use Rattle.integers.proofs.Laws.Parts.{back}
 use Rattle.integers.proofs.Laws.Bounds.{sum-fits, difference-fits, product-fits, op-fits, op-back}
-use Rattle.records.specs.declared.kinds.Form.{Form}
-use Rattle.records.specs.declared.kinds.Form.the-variants.{Arithmetic, Connective, Comparison}
+use Rattle.records.specs.Form.{Form}
+use Rattle.records.specs.Form.Form.{Arithmetic, Connective, Comparison}
 use Rattle.records.specs.Record.{kindAt, fieldA}
 use Rattle.records.specs.Kind.{number as numberSort, truth as truthSort}
 use Rattle.records.proofs.Laws.Kind.{constant-form, variable-form, arithmetic-form, indicator-form, literal-form, negation-form, connective-form}
-use Rattle.records.proofs.Laws.Kind.{comparison-form, arithmetic-row, indicator-row, negation-row, connective-row, comparison-row}
+use Rattle.records.proofs.Laws.Kind.{comparison-form}
 use Rattle.intervals.proofs.Laws.Combine.{combine-sum, combine-difference, combine-product}
 use Rattle.expressions.specs.Expression.{connectOf}
 use Rattle.expressions.proofs.Laws.Expression.{fits-record}
@@ -115,7 +115,7 @@ module _ (t : ℕ) where
 
   summed : (m : number-at-lts.After-after (number-at-claims t) (number-at-at t) number-at.Post)
       → let kind = kindAt (m .before .before .before .args .part .now) 0 in 0x12 ≤ kind → kind ≤ 0x14 → Numbers m
-  summed m l h = two _ _ _ _ _ _ (m .before .before .before .pre .1) (arithmetic-form l h) (m .after .ensures) arithmetic-row
+  summed m l h = two _ _ _ _ _ _ (m .before .before .before .pre .1) (arithmetic-form l h) (m .after .ensures) refl
 
   sum : (c : number-at-lts.At-match-keys3 (number-at-claims t) (number-at-at t) number-at.Post) → Numbers (c .before)
   sum c = summed (c .before) (omega (arith, c .match .keys3)) (omega (arith, c .match .keys3))
@@ -134,7 +134,7 @@ module _ (t : ℕ) where
 
   connected : (m : truth-at-lts.After-after (truth-at-claims t) (truth-at-at t) truth-at.Post)
       → let kind = kindAt (m .before .before .before .args .part .now) 0 in 0x23 ≤ kind → kind ≤ 0x26 → Truths truthSort Connective m
-  connected m l h = two _ _ _ _ _ _ (m .before .before .before .pre .1) (connective-form l h) (m .after .ensures) connective-row
+  connected m l h = two _ _ _ _ _ _ (m .before .before .before .pre .1) (connective-form l h) (m .after .ensures) refl
 
   conjunction : (c : truth-at-lts.At-match-keys3 (truth-at-claims t) (truth-at-at t) truth-at.Post) → Truths truthSort Connective (c .before)
   conjunction c = connected (c .before) (omega (arith, c .match .keys3)) (omega (arith, c .match .keys3))
@@ -150,7 +150,7 @@ module _ (t : ℕ) where
 
   compared : (c : truth-at-lts.Then5 (truth-at-claims t) (truth-at-at t) truth-at.Post) → Truths numberSort Comparison (c .before .before .before)
   compared c = let h = c .before .before .before .before .before .before .pre .1 in
-      two _ _ _ _ _ _ h (comparison-form (omega arith) (truth-kinds _ _ _ (h .0) .1)) (c .before .before .before .after .ensures) comparison-row
+      two _ _ _ _ _ _ h (comparison-form (omega arith) (truth-kinds _ _ _ (h .0) .1)) (c .before .before .before .after .ensures) refl
 
   -- ---- a variable is one of twelve
   number-named : (c : number-at-lts.At-match-keys2 (number-at-claims t) (number-at-at t) number-at.Post)
@@ -284,7 +284,7 @@ module _ (t : ℕ) where
 
   number-at-truth-at-requires : number-at-lts.Need-truth-at-requires (number-at-claims t) (number-at-at t) number-at.Post
   number-at-truth-at-requires c κs = let l = level _ _ _ _ _ _ (c .before .before .before .before .pre .1) in
-      (omega arith, one _ _ _ _ _ _ (c .before .before .before .before .pre .1) (indicator-form (c .match .keys6)) (c .before .after .ensures) indicator-row)
+      (omega arith, one _ _ _ _ _ _ (c .before .before .before .before .pre .1) (indicator-form (c .match .keys6)) (c .before .after .ensures) refl)
 
   number-at-indicator-requires : number-at-lts.Need-indicator-requires (number-at-claims t) (number-at-at t) number-at.Post
   number-at-indicator-requires c κs = tt
@@ -381,7 +381,7 @@ module _ (t : ℕ) where
 
   truth-at-truth-at-requires : truth-at-lts.Need-truth-at-requires (truth-at-claims t) (truth-at-at t) truth-at.Post
   truth-at-truth-at-requires c κs = let l = level _ _ _ _ _ _ (c .before .before .before .before .pre .1) in
-      (omega arith, one _ _ _ _ _ _ (c .before .before .before .before .pre .1) (negation-form (c .match .keys2)) (c .before .after .ensures) negation-row)
+      (omega arith, one _ _ _ _ _ _ (c .before .before .before .before .pre .1) (negation-form (c .match .keys2)) (c .before .after .ensures) refl)
 
   truth-at-truth-at-requires-2 : truth-at-lts.Need-truth-at-requires-2 (truth-at-claims t) (truth-at-at t) truth-at.Post
   truth-at-truth-at-requires-2 c κs = let s = conjunction c in (omega (arith, c .before .before .before .before .pre .0), s .left)

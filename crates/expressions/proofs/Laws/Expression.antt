@@ -1,6 +1,5 @@
 -- Laws of what an expression is worth, by the form of its record, one level further in for its operands.
 --     first-is, second-is                                     the parts of the operands
---     number-opens, truth-opens                               a number and a truth, by the form
 --     number-constant, number-variable, number-arithmetic, number-indicator     a number of each form
 --     truth-literal, truth-negation, truth-connective, truth-comparison         a truth of each form
 --     holds-is                                                a truth expression of a file
@@ -8,26 +7,29 @@
 --     fits-opens, fits-one, fits-two                          its operands fit
 --     fits-within, fits-here                                  all its records are there
 -- Assumes nothing.
-use mathlib.Core.Path.{_≡_, refl}
+use mathlib.Core.Path.{_≡_, refl, _∙_}
 use mathlib.Core.List.{List}
 use mathlib.Core.Bool.{not}
 use Prim.Native.Nat.{ℕ, zero, suc, _+_, _-_, _*_, _≤_}
 use native.Mathlib.Omega.{arith}
+use borrow.Author.Tests.{le-leb, lt-leb, ne-eqb}
 use lib.ListN.{length, getD, length-drop}
 use lib.Dec.{eqb}
 use lib.IntN.{ℤ, pos}
-use Rattle.integers.specs.Interval.{In, bounds}
-use Rattle.records.specs.declared.kinds.Form.{Form}
-use Rattle.records.specs.declared.kinds.Form.the-variants.{Constant, Variable, Arithmetic, Indicator, Literal, Negation, Connective, Comparison}
+use Rattle.integers.specs.Interval.{bounds}
+use Rattle.integers.specs.Inside.{In}
+use Rattle.records.specs.Form.{Form}
+use Rattle.records.specs.Form.Form.{Constant, Variable, Arithmetic, Indicator, Literal, Negation, Connective, Comparison}
 use Rattle.records.specs.Record.{kindAt, fieldA, valueB}
-use Rattle.records.specs.Kind.{row, formAt, signatureOf, signatureAt}
-use Rattle.records.specs.Kind.{number as numberSort}
+use Rattle.records.specs.Kind.{row, signatureOf, signatureAt, number as numberSort}
+use Rattle.records.specs.Form.{formAt, rowOf}
 use Rattle.records.specs.Walk.{spans, span}
-use Rattle.records.proofs.Laws.Kind.{operands-most}
+use Rattle.records.proofs.Laws.Kind.{operands-most, form-range, signature-by}
 use Rattle.records.proofs.Laws.Span.{spans-none, spans-one, spans-two, span-opens}
 use Rattle.intervals.specs.Interval.{combine}
 use Rattle.expressions.specs.Expression.{partAt, firstOperand, secondOperand, indicatorOf, connectOf, compareOf, numberBy, truthBy, number, truth}
-use Rattle.expressions.specs.Expression.{holdsOf, RecordFits, OperandsFit, Fits}
+use Rattle.expressions.specs.Expression.{holdsOf}
+use Rattle.expressions.specs.Fits.{RecordFits, OperandsFit, Fits}
 
 -- ---- the operands
 pub first-is : (part : List ℕ) → firstOperand part ≡ partAt part 1
@@ -40,65 +42,72 @@ second-is levels part = refl
 
 -- ---- worth
 module _ {levels below : ℕ} (e : levels ≡ suc below) (part : List ℕ) (state : List ℤ) where
-  pub number-opens : {f : Form} → formAt part 0 ≡ f
-      → number levels part state ≡ numberBy below (λ p. number below p state) (λ p. truth below p state) f part state
+  number-opens : number levels part state ≡ numberBy below (λ p. number below p state) (λ p. truth below p state) (kindAt part 0) part state
   unfolding number
-  number-opens is = rw (e, is)
+  number-opens = rw e
 
-  pub truth-opens : {f : Form} → formAt part 0 ≡ f
-      → truth levels part state ≡ truthBy below (λ p. number below p state) (λ p. truth below p state) f part
+  truth-opens : truth levels part state ≡ truthBy below (λ p. number below p state) (λ p. truth below p state) (kindAt part 0) part
   unfolding truth
-  truth-opens is = rw (e, is)
+  truth-opens = rw e
 
   pub number-constant : formAt part 0 ≡ Constant → number levels part state ≡ valueB part 0
   unfolding numberBy
-  number-constant = number-opens
+  number-constant is = number-opens ∙ rw (form-range (kindAt part 0) is)
 
   pub number-variable : formAt part 0 ≡ Variable → number levels part state ≡ getD state (fieldA part 0) (pos 0)
   unfolding numberBy
-  number-variable = number-opens
+  number-variable is = number-opens ∙ rw (form-range (kindAt part 0) is)
 
   pub number-arithmetic : formAt part 0 ≡ Arithmetic
       → number levels part state ≡ combine (kindAt part 0) (number below (firstOperand part) state) (number below (secondOperand below part) state)
   unfolding numberBy
-  number-arithmetic = number-opens
+  number-arithmetic is =
+      let k = kindAt part 0 in
+      let r = form-range k is in
+      number-opens ∙ rw (ne-eqb k 0x10 (λ z. omega arith), ne-eqb k 0x11 (λ z. omega arith), ne-eqb k 0x15 (λ z. omega arith))
 
   pub number-indicator : formAt part 0 ≡ Indicator → number levels part state ≡ indicatorOf (truth below (firstOperand part) state)
   unfolding numberBy
-  number-indicator = number-opens
+  number-indicator is = number-opens ∙ rw (form-range (kindAt part 0) is)
 
   pub truth-literal : formAt part 0 ≡ Literal → truth levels part state ≡ eqb (kindAt part 0) 0x20
   unfolding truthBy
-  truth-literal = truth-opens
+  truth-literal is = truth-opens ∙ rw (le-leb _ _ (form-range (kindAt part 0) is .1))
 
   pub truth-negation : formAt part 0 ≡ Negation → truth levels part state ≡ not (truth below (firstOperand part) state)
   unfolding truthBy
-  truth-negation = truth-opens
+  truth-negation is = truth-opens ∙ rw (form-range (kindAt part 0) is)
 
   pub truth-connective : formAt part 0 ≡ Connective
       → truth levels part state ≡ connectOf (kindAt part 0) (truth below (firstOperand part) state) (truth below (secondOperand below part) state)
   unfolding truthBy
-  truth-connective = truth-opens
+  truth-connective is =
+      let k = kindAt part 0 in
+      let r = form-range k is in
+      truth-opens ∙ rw (lt-leb k 0x21 (omega arith), ne-eqb k 0x22 (λ z. omega arith), le-leb k 0x26 (r .1))
 
   pub truth-comparison : formAt part 0 ≡ Comparison
       → truth levels part state ≡ compareOf (kindAt part 0) (number below (firstOperand part) state) (number below (secondOperand below part) state)
   unfolding truthBy
-  truth-comparison = truth-opens
+  truth-comparison is =
+      let k = kindAt part 0 in
+      let r = form-range k is in
+      truth-opens ∙ rw (lt-leb k 0x21 (omega arith), ne-eqb k 0x22 (λ z. omega arith), lt-leb k 0x26 (r .0))
 
   -- ---- operands that fit
-  module _ {f : Form} (is : formAt part 0 ≡ f) (want : ℕ) (h : Fits levels want part state) where
-    pub fits-opens : let s = signatureOf f in OperandsFit (λ sort p. Fits below sort p state) below part (s .first) (s .second) (s .operands)
-    unfolding Fits
-    fits-opens = (rw (e, is) at h) .2
+  pub fits-opens : {kind : ℕ} (is : kindAt part 0 ≡ kind) (want : ℕ) (h : Fits levels want part state)
+      → let s = signatureOf kind in OperandsFit (λ sort p. Fits below sort p state) below part (s .first) (s .second) (s .operands)
+  unfolding Fits
+  fits-opens is want h = (rw (e, is) at h) .2
 
-    module _ {own a b : ℕ} where
-      pub fits-one : signatureOf f ≡ row own 1 a b → Fits below a (firstOperand part) state
-      unfolding OperandsFit
-      fits-one r = rw r at fits-opens
+  module _ {f : Form} (is : formAt part 0 ≡ f) (want : ℕ) (h : Fits levels want part state) {own a b : ℕ} where
+    pub fits-one : rowOf f ≡ row own 1 a b → Fits below a (firstOperand part) state
+    unfolding OperandsFit
+    fits-one r = rw (signature-by (kindAt part 0) is, r) at (fits-opens refl want h)
 
-      pub fits-two : signatureOf f ≡ row own 2 a b → Fits below a (firstOperand part) state × Fits below b (secondOperand below part) state
-      unfolding OperandsFit
-      fits-two r = rw r at fits-opens
+    pub fits-two : rowOf f ≡ row own 2 a b → Fits below a (firstOperand part) state × Fits below b (secondOperand below part) state
+    unfolding OperandsFit
+    fits-two r = rw (signature-by (kindAt part 0) is, r) at (fits-opens refl want h)
 
 pub holds-is : (file : List ℕ) (at : ℕ) (state : List ℤ) → holdsOf file at state ≡ truth 16 (partAt file at) state
 unfolding holdsOf
@@ -137,8 +146,8 @@ unfolding Fits
 fits-within zero want part state h = absurd h
 fits-within (suc levels) want part state h =
     let s = signatureAt part 0 in
-    rw (span-opens {below = levels} refl part {f = formAt part 0} refl)
-    (operands-within (λ sort p. Fits levels sort p state) levels part (s .first) (s .second) (s .operands) (operands-most (formAt part 0)) (h .0 .there)
+    rw (span-opens {below = levels} refl part refl)
+    (operands-within (λ sort p. Fits levels sort p state) levels part (s .first) (s .second) (s .operands) (operands-most (kindAt part 0)) (h .0 .there)
     (λ sort p. fits-within levels sort p state) (h .2))
 
 -- of an expression of a file

@@ -11,13 +11,15 @@ use native.Mathlib.Omega.{arith}
 use lib.ListN.{length, getD, drop, length-drop}
 use lib.Seq.{getD-drop}
 use lib.IntN.{ℤ}
-use Rattle.records.specs.declared.kinds.Form.{Form}
+use Rattle.records.specs.Form.{Form}
 use Rattle.records.specs.Record.{kindAt}
-use Rattle.records.specs.Kind.{row, formAt, signatureOf}
-use Rattle.records.specs.Kind.{number as numberSort, truth as truthSort}
+use Rattle.records.specs.Kind.{row, number as numberSort, truth as truthSort}
+use Rattle.records.specs.Form.{formAt, rowOf}
 use Rattle.records.specs.Walk.{span}
 use Rattle.records.proofs.Laws.Kind.{number-range, truth-range}
-use Rattle.expressions.specs.Expression.{partAt, firstOperand, secondOperand, Fits, Spans}
+use Rattle.expressions.specs.Expression.{partAt, firstOperand, secondOperand}
+use Rattle.expressions.specs.Spans.{Spans}
+use Rattle.expressions.specs.Fits.{Fits}
 use Rattle.expressions.proofs.Laws.Expression.{first-is, second-is, fits-level, fits-record, fits-one, fits-two, fits-within}
 use Rattle.expressions.proofs.Laws.Span.{spans-from}
 
@@ -59,10 +61,10 @@ module _ (levels want : ℕ) (part table : List ℕ) (at : ℕ) (state : List �
       (f, (omega (arith, h .1 .0, ap length e, length-drop (8 * k) part), rw e (spans-from part table at k (h .1 .1))))
 
   module _ {f : Form} (is : formAt part 0 ≡ f) {p : List ℕ} (e : p ≡ partAt part 1) {own a b : ℕ} where
-    pub one : signatureOf f ≡ row own 1 a b → Asked (levels - 1) a p table (at + 1) state
+    pub one : rowOf f ≡ row own 1 a b → Asked (levels - 1) a p table (at + 1) state
     one r = onward 1 e there (levels - 1) a (rw (e, ← first-is part) (fits-one level part state is want (h .0) r))
 
-    pub two : signatureOf f ≡ row own 2 a b → Two levels a b f part table at p state
+    pub two : rowOf f ≡ row own 2 a b → Two levels a b f part table at p state
     two r =
         let below = levels - 1 in
         let first : p ≡ firstOperand part = e ∙ sym (first-is part) in

@@ -14,8 +14,9 @@ use lib.Seq.{take-all}
 use Rattle.integers.specs.declared.Interval.{Interval}
 use Rattle.intervals.specs.Expression.{Expression}
 use Rattle.intervals.proofs.Laws.Expression.{expression-span}
-use Rattle.expressions.specs.Expression.{partAt, Fits, Spans}
-use Rattle.expressions.specs.Expression.{behind}
+use Rattle.expressions.specs.Expression.{partAt, behind}
+use Rattle.expressions.specs.Spans.{Spans}
+use Rattle.expressions.specs.Fits.{Fits}
 use Rattle.expressions.proofs.Laws.Expression.{fits-within, fits-here}
 use Rattle.expressions.proofs.Laws.Span.{spans-part}
 

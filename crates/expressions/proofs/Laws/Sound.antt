@@ -13,22 +13,23 @@ use lib.ListN.{length, getD, length-drop}
 use lib.Seq.{getD-drop, drop-drop}
 use lib.Signed.{≤ℤ-refl}
 use Rattle.integers.specs.declared.Interval.{Interval}
-use Rattle.integers.specs.Interval.{In}
+use Rattle.integers.specs.Inside.{In}
 use Rattle.integers.proofs.Laws.Parts.{by-test, ints}
 use Rattle.integers.proofs.Laws.Interval.{in-bounds}
-use Rattle.records.specs.declared.kinds.Form.{Form}
-use Rattle.records.specs.declared.kinds.Form.the-variants.{Constant, Variable, Arithmetic, Indicator}
+use Rattle.records.specs.Form.{Form}
+use Rattle.records.specs.Form.Form.{Constant, Variable, Arithmetic, Indicator}
 use Rattle.records.specs.Record.{kindAt, fieldA, valueB, valueC}
-use Rattle.records.specs.Kind.{row, formAt, signatureOf, signatureAt}
-use Rattle.records.specs.Kind.{number as numberSort}
+use Rattle.records.specs.Kind.{row, signatureOf, signatureAt, number as numberSort}
+use Rattle.records.specs.Form.{formAt, rowOf}
 use Rattle.records.specs.Walk.{span}
-use Rattle.records.proofs.Laws.Kind.{constant-row, variable-row, arithmetic-row, indicator-row, number-forms}
+use Rattle.records.proofs.Laws.Kind.{number-forms, signature-by}
 use Rattle.records.proofs.Laws.Span.{kind-part, form-part}
 use Rattle.intervals.specs.Interval.{interval, unit}
 use Rattle.intervals.specs.Expression.{Expression, Operands}
 use Rattle.intervals.proofs.Laws.Combine.{leaf-constant, leaf-variable, join-arithmetic, combine-in}
 use Rattle.intervals.proofs.Laws.Expression.{expression-opens, expression-deepest, expression-bounded, expression-span}
-use Rattle.expressions.specs.Expression.{partAt, firstOperand, secondOperand, indicatorOf, number, OperandsFit, Fits}
+use Rattle.expressions.specs.Expression.{partAt, firstOperand, secondOperand, indicatorOf, number}
+use Rattle.expressions.specs.Fits.{OperandsFit, Fits}
 use Rattle.expressions.proofs.Laws.Expression.{number-constant, number-variable, number-arithmetic, number-indicator}
 
 -- ---- the fields of a part's record are the file's, and its parts are
@@ -94,33 +95,33 @@ module _ (file : List ℕ) (vars : ℕ) (most : vars ≤ 12) (state : List ℤ)
     form-at : {f : Form} → formAt file at ≡ f → formAt (partAt file at) 0 ≡ f
     form-at is = form-part file at ∙ is
 
-    count-at : {f : Form} {own n a b m : ℕ} → formAt file at ≡ f → signatureOf f ≡ row own n a b → signatureAt file at .operands ≡ m → n ≡ m
-    count-at is r m = rw (is, r) at m
+    count-at : {f : Form} {own n a b m : ℕ} → formAt file at ≡ f → rowOf f ≡ row own n a b → signatureAt file at .operands ≡ m → n ≡ m
+    count-at is r m = rw (signature-by (kindAt file at) is, r) at m
 
     constant-lies : Lies Constant
     constant-lies i is (Operands.none m e) =
-        rw (number-constant {below = levels} refl (partAt file at) state (form-at is), is, leaf-constant, value-part file at) (constant-in (valueB file at))
-    constant-lies i is (Operands.one {j} m x) = absurd (omega (arith, count-at is constant-row m))
-    constant-lies i is (Operands.two {mid} {j} {k} m x y) = absurd (omega (arith, count-at is constant-row m))
+        rw (number-constant {below = levels} refl (partAt file at) state (form-at is), leaf-constant file at is, value-part file at)
+        (constant-in (valueB file at))
+    constant-lies i is (Operands.one {j} m x) = absurd (omega (arith, count-at is refl m))
+    constant-lies i is (Operands.two {mid} {j} {k} m x y) = absurd (omega (arith, count-at is refl m))
 
     variable-lies : (formAt file at ≡ Variable → fieldA file at < vars) → Lies Variable
     variable-lies named i is (Operands.none m e) =
-        rw (number-variable {below = levels} refl (partAt file at) state (form-at is), is, leaf-variable, variable-part file at)
+        rw (number-variable {below = levels} refl (partAt file at) state (form-at is), leaf-variable file at is, variable-part file at)
         (inside (fieldA file at) (named is))
-    variable-lies named i is (Operands.one {j} m x) = absurd (omega (arith, count-at is variable-row m))
-    variable-lies named i is (Operands.two {mid} {j} {k} m x y) = absurd (omega (arith, count-at is variable-row m))
+    variable-lies named i is (Operands.one {j} m x) = absurd (omega (arith, count-at is refl m))
+    variable-lies named i is (Operands.two {mid} {j} {k} m x y) = absurd (omega (arith, count-at is refl m))
 
     arithmetic-lies : Lies Arithmetic
-    arithmetic-lies i is (Operands.none m e) = absurd (omega (arith, count-at is arithmetic-row m))
-    arithmetic-lies i is (Operands.one {j} m x) = absurd (omega (arith, count-at is arithmetic-row m))
+    arithmetic-lies i is (Operands.none m e) = absurd (omega (arith, count-at is refl m))
+    arithmetic-lies i is (Operands.one {j} m x) = absurd (omega (arith, count-at is refl m))
     arithmetic-lies i is (Operands.two {mid} {j} {k} m x y) =
-        let first : signatureAt file at .first ≡ numberSort = rw (is, arithmetic-row) in
-        let second : signatureAt file at .second ≡ numberSort = rw (is, arithmetic-row) in
+        let first : signatureAt file at .first ≡ numberSort = rw (signature-by (kindAt file at) is) in
+        let second : signatureAt file at .second ≡ numberSort = rw (signature-by (kindAt file at) is) in
         let operands-in = combine-in (kindAt file at) (ih _ _ _ _ x .number-lies first) (ih _ _ _ _ y .number-lies second) in
         rw (
           number-arithmetic {below = levels} refl (partAt file at) state (form-at is),
-          is,
-          join-arithmetic,
+          join-arithmetic (kindAt file at) is,
           kind-part file at,
           first-part file at,
           second-at x,
@@ -128,10 +129,10 @@ module _ (file : List ℕ) (vars : ℕ) (most : vars ≤ 12) (state : List ℤ)
         operands-in
 
     indicator-lies : Lies Indicator
-    indicator-lies i is (Operands.none m e) = absurd (omega (arith, count-at is indicator-row m))
+    indicator-lies i is (Operands.none m e) = absurd (omega (arith, count-at is refl m))
     indicator-lies i is (Operands.one {j} m x) =
         rw (number-indicator {below = levels} refl (partAt file at) state (form-at is)) (indicator-in _)
-    indicator-lies i is (Operands.two {mid} {j} {k} m x y) = absurd (omega (arith, count-at is indicator-row m))
+    indicator-lies i is (Operands.two {mid} {j} {k} m x y) = absurd (omega (arith, count-at is refl m))
 
   sound : (levels want at end : ℕ) (i : Interval) → Expression file vars levels want at end i → Sound levels want at i
   unfolding Fits
@@ -140,17 +141,17 @@ module _ (file : List ℕ) (vars : ℕ) (most : vars ≤ 12) (state : List ℤ)
       let o = expression-opens file vars levels at end x in
       let ih = sound levels in
       let lies : want ≡ numberSort → In (number (suc levels) (partAt file at) state) i =
-      λ w. number-forms (Lies levels at end ih) (constant-lies levels at end ih) (variable-lies levels at end ih (o .variable))
-      (arithmetic-lies levels at end ih) (indicator-lies levels at end ih) (formAt file at) (o .sort ∙ w) i refl (o .operands) in
+      λ w. number-forms (Lies levels at end ih) (kindAt file at) (constant-lies levels at end ih) (variable-lies levels at end ih (o .variable))
+      (arithmetic-lies levels at end ih) (indicator-lies levels at end ih) (o .sort ∙ w) i refl (o .operands) in
       record {
         fits = (
           record {
             there = part-length file at (o .here);
-            sort = ap (λ (f : Form). signatureOf f .sort) (form-part file at) ∙ o .sort;
+            sort = ap (λ k. signatureOf k .sort) (kind-part file at) ∙ o .sort;
             variable = λ v. rw (variable-part file at) (let l = o .variable (sym (form-part file at) ∙ v) in omega arith);
           },
           λ w. in-bounds (expression-bounded file vars want at end x) (lies w),
-          rw (form-part file at) (operands-fit levels at end ih (o .operands)),
+          rw (kind-part file at) (operands-fit levels at end ih (o .operands)),
         );
         number-lies = lies;
       }

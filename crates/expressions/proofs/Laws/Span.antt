@@ -13,11 +13,14 @@ use native.Mathlib.Omega.{arith}
 use lib.IntN.{ℤ}
 use lib.ListN.{length, getD, drop, replicate, length-drop}
 use lib.Seq.{getD-drop, drop-drop}
-use Rattle.records.specs.Kind.{formAt, signatureOf, signatureAt}
+use Rattle.records.specs.Kind.{signatureAt}
+use Rattle.records.specs.Record.{kindAt}
 use Rattle.records.specs.Walk.{spans, span}
 use Rattle.records.proofs.Laws.Kind.{operands-most}
-use Rattle.records.proofs.Laws.Span.{form-part, spans-none, spans-one, spans-two, span-opens}
-use Rattle.expressions.specs.Expression.{partAt, firstOperand, secondOperand, OperandsFit, Fits, spanBy, withSpan, spansFrom, spansOf, Spans}
+use Rattle.records.proofs.Laws.Span.{kind-part, spans-none, spans-one, spans-two, span-opens}
+use Rattle.expressions.specs.Expression.{partAt, firstOperand, secondOperand}
+use Rattle.expressions.specs.Spans.{spanBy, withSpan, spansFrom, spansOf, Spans}
+use Rattle.expressions.specs.Fits.{OperandsFit, Fits}
 use Rattle.expressions.proofs.Laws.Expression.{fits-opens, fits-level, fits-here}
 use Rattle.expressions.proofs.Laws.Sound.{part-part, first-part, second-part}
 
@@ -66,11 +69,11 @@ module _ (file : List ℕ) where
           right =
               λ levels want state h.
               let part = partAt file at in
-              let g = formAt file at in
+              let s = signatureAt file at in
               let e = fits-level levels want part state h in
-              rw (span-opens e part (form-part file at))
-              (by-right (levels - 1) (signatureOf g .first) (signatureOf g .second) state (signatureOf g .operands) (operands-most g)
-              (fits-opens e part state (form-part file at) want h));
+              rw (span-opens e part (kind-part file at))
+              (by-right (levels - 1) (s .first) (s .second) state (s .operands) (operands-most (kindAt file at))
+              (fits-opens e part state (kind-part file at) want h));
         }
 
   -- ---- all of them; no expression begins behind the last record

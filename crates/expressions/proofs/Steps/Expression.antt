@@ -6,14 +6,16 @@ use Prim.Native.Nat.{ℕ, suc, _+_, _-_}
 use lib.ListN.{getD}
 use lib.Dec.{eqb}
 use lib.IntN.{ℤ, pos}
-use Rattle.integers.specs.Interval.{In, bounds}
-use Rattle.records.specs.declared.kinds.Form.{Form}
-use Rattle.records.specs.declared.kinds.Form.the-variants.{Constant, Variable, Arithmetic, Indicator, Literal, Negation, Connective, Comparison}
+use Rattle.integers.specs.Interval.{bounds}
+use Rattle.integers.specs.Inside.{In}
+use Rattle.records.specs.Form.{Form}
+use Rattle.records.specs.Form.Form.{Constant, Variable, Arithmetic, Indicator, Literal, Negation, Connective, Comparison}
 use Rattle.records.specs.Record.{kindAt, fieldA, valueB}
-use Rattle.records.specs.Kind.{formOf, formAt}
 use Rattle.records.specs.Kind.{number as numberSort}
+use Rattle.records.specs.Form.{formOf, formAt}
 use Rattle.intervals.specs.Interval.{combine}
-use Rattle.expressions.specs.Expression.{partAt, indicatorOf, connectOf, compareOf, number, truth, Fits}
+use Rattle.expressions.specs.Expression.{partAt, indicatorOf, connectOf, compareOf, number, truth}
+use Rattle.expressions.specs.Fits.{Fits}
 use Rattle.expressions.proofs.Laws.Expression.{first-is, number-constant, number-variable, number-arithmetic, number-indicator}
 use Rattle.expressions.proofs.Laws.Expression.{truth-literal, truth-negation, truth-connective, truth-comparison, fits-small}
 use Rattle.expressions.proofs.Laws.Operand.{Asked, Two, level}

@@ -10,7 +10,7 @@ use lib.ListN.{length, getD, drop, set, replicate, length-set, length-replicate}
 use lib.Seq.{drop-cons, getD-drop, getD-set-same, drop-set-lt}
 use Rattle.records.specs.declared.kinds.Signature.{Signature}
 use Rattle.records.specs.Kind.{signatureAt}
-use Rattle.expressions.specs.Expression.{spanBy, withSpan, spansFrom, spansOf}
+use Rattle.expressions.specs.Spans.{spanBy, withSpan, spansFrom, spansOf}
 use Rattle.expressions.proofs.Laws.Span.{zeros-behind, spans-entry}
 
 pub record SpansFilled (file table : List ℕ) (at : ℕ) : Type 0 where

@@ -8,7 +8,8 @@ use native.Mathlib.Nat.{mul-le-mul-left}
 use lib.IntN.{ℤ, pos, negsuc, _+ℤ_, _-ℤ_, _*ℤ_, *ℤ-comm}
 use lib.Signed.{leZ, _≤ℤ_}
 use Rattle.integers.specs.declared.Interval.{Interval}
-use Rattle.integers.specs.Interval.{In, minZ, maxZ, around, overEnds, between, bounds, inBounds, Bounded}
+use Rattle.integers.specs.Interval.{minZ, maxZ, around, overEnds, between, bounds, inBounds}
+use Rattle.integers.specs.Inside.{In, Bounded}
 use Rattle.integers.proofs.Laws.Parts.{ints, ≤ℤ-trans, by-test, ≤-parts, add-parts, sub-parts, mul-parts}
 
 -- ---- the lesser and the greater of two

@@ -2,13 +2,12 @@
 -- left.
 -- Assumes nothing.
 use native.Mathlib.Omega.{arith}
-use mathlib.Core.Path.{_≡_, sym, ap, _∙_}
-use Rattle.records.specs.Kind.{signatureOf}
+use mathlib.Core.Path.{_≡_, sym, _∙_}
 use Prim.Native.Nat.{ℕ, _-_, _<_}
 use borrow.Author.Needs.{needs}
-use Rattle.intervals.proofs.Steps.Interval.{analyse-deep, analyse-short, analyse-step, by-none, by-out, by-one, by-two-out, by-two, own-same, own-join}
+use Rattle.intervals.proofs.Steps.Interval.{analyse-deep, analyse-short, analyse-step, by-none, by-out, by-one, by-two-out, by-two, own-same}
 use Rattle.intervals.specs.declared.Analysis.{Analysis}
-use Rattle.intervals.specs.Interval.{leafOf, byOperands, analysisOf}
+use Rattle.intervals.specs.Interval.{byOperands, analysisOf}
 use Rattle.intervals.proofs.Laws.Interval.{analysis-bounded}
 use borrow.Fn.Kinds.{In}
 use denote.Ref.{now}
@@ -19,7 +18,6 @@ use Rattle.intervals.proofs.+analyse.Lts-analyse as analyse-lts
 use Rattle.intervals.proofs.join.Reads as join-reads
 use Rattle.intervals.proofs.leaf.Reads as leaf-reads
 use Rattle.intervals.proofs.own.Reads as own-reads
-use Rattle.records.proofs.kinds.form_of.Reads as form-of-reads
 use Rattle.records.proofs.kinds.signature_of.Reads as signature-of-reads
 use Rattle.intervals.proofs.+analyse.{statement}
 use Rattle.intervals.proofs.+analyse.Tie.{close}
@@ -35,8 +33,6 @@ analyse-below t = and 1 analyse-kinds.ps (falls 1 analyse-kinds.ps _<_ μ-analys
 
 abbrev others : ℕ → analyse-lts.Claims
 others t = (
-  form-of-reads.Asked,
-  form-of-reads.Learnt,
   signature-of-reads.Asked,
   signature-of-reads.Learnt,
   leaf-reads.Asked,
@@ -54,8 +50,8 @@ module _ (t : ℕ) where
   abbrev AtRecord : Type 0
   AtRecord = analyse-lts.After-signature-of (others t) (analyse-at t) analyse.Post
 
-  abbrev args : (s : AtRecord) → analyse-lts.Args (others t) (analyse-at t) analyse.Post (s .before .before .before .before .before .before .κs)
-  args s = s .before .before .before .before .before .before .args
+  abbrev args : (s : AtRecord) → analyse-lts.Args (others t) (analyse-at t) analyse.Post (s .before .before .before .before .before .κs)
+  args s = s .before .before .before .before .before .args
 
   abbrev analysed : AtRecord → ℕ → ℕ → Analysis
   analysed s levels at = analysisOf (now (args s .file)) levels at
@@ -64,8 +60,7 @@ module _ (t : ℕ) where
       → analysed s (args s .levels) (args s .at)
       ≡ byOperands (now (args s .file)) (args s .at) (analysed s (args s .levels - 1)) (s .signature-of .result .operands)
   record-analysed s =
-      analyse-step _ _ _ (s .signature-of .ensures ∙ ap signatureOf (s .before .form-of .ensures)) _ (s .before .before .before .if2 .left)
-      (s .before .before .before .before .if1 .left)
+      analyse-step _ _ _ (s .signature-of .ensures) _ (s .before .before .if2 .left) (s .before .before .before .if1 .left)
 
 analyse-returns : (t : ℕ) → analyse-lts.Need-returns (others t) (analyse-at t) analyse.Post
 analyse-returns t c = sym (analyse-deep _ _ _ (c .if1 .taken))
@@ -78,9 +73,6 @@ analyse-mul-kind t c = omega arith
 
 analyse-shared-slice-read-kind : (t : ℕ) → analyse-lts.Need-shared-slice-read-kind (others t) (analyse-at t) analyse.Post
 analyse-shared-slice-read-kind t c = omega arith
-
-analyse-form-of-requires : (t : ℕ) → analyse-lts.Need-form-of-requires (others t) (analyse-at t) analyse.Post
-analyse-form-of-requires t c κs = tt
 
 analyse-signature-of-requires : (t : ℕ) → analyse-lts.Need-signature-of-requires (others t) (analyse-at t) analyse.Post
 analyse-signature-of-requires t c κs = tt
@@ -97,8 +89,7 @@ analyse-own-requires t c κs = tt
 analyse-returns-3 : (t : ℕ) → analyse-lts.Need-returns-3 (others t) (analyse-at t) analyse.Post
 analyse-returns-3 t c =
     let opened = c .before .before .before in
-    let leaf = c .before .leaf .ensures ∙ ap (leafOf _ _) (opened .before .form-of .ensures) in
-    c .own .ensures ∙ own-same _ _ _ _ leaf ∙ sym (record-analysed t opened ∙ by-none _ _ _ _ (c .before .before .if3 .taken))
+    c .own .ensures ∙ own-same _ _ _ _ (c .before .leaf .ensures) ∙ sym (record-analysed t opened ∙ by-none _ _ _ _ (c .before .before .if3 .taken))
 
 analyse-sub-analyse : (t : ℕ) → analyse-lts.Need-sub-analyse (others t) (analyse-at t) analyse.Post
 analyse-sub-analyse t c = omega arith
@@ -107,7 +98,7 @@ analyse-add-analyse : (t : ℕ) → analyse-lts.Need-add-analyse (others t) (ana
 analyse-add-analyse t c = omega arith
 
 analyse-analyse-requires : (t : ℕ) → analyse-lts.Need-analyse-requires (others t) (analyse-at t) analyse.Post
-analyse-analyse-requires t c κs = let opened = c .before in (omega (arith, opened .before .before .before .before .before .before .pre .0), tt)
+analyse-analyse-requires t c κs = let opened = c .before in (omega (arith, opened .before .before .before .before .before .pre .0), tt)
 
 analyse-enum-known-left : (t : ℕ) → analyse-lts.Need-enum-known-left (others t) (analyse-at t) analyse.Post
 analyse-enum-known-left t c = search needs
@@ -127,7 +118,7 @@ analyse-sub-analyse-2 t c = omega arith
 analyse-analyse-requires-2 : (t : ℕ) → analyse-lts.Need-analyse-requires-2 (others t) (analyse-at t) analyse.Post
 analyse-analyse-requires-2 t c κs =
     let opened = c .before .before .before .before .before .before in
-    (omega (arith, opened .before .before .before .before .before .before .pre .0), tt)
+    (omega (arith, opened .before .before .before .before .before .pre .0), tt)
 
 analyse-enum-known-right : (t : ℕ) → analyse-lts.Need-enum-known-right (others t) (analyse-at t) analyse.Post
 analyse-enum-known-right t c = search needs
@@ -157,7 +148,7 @@ analyse-returns-5 t c =
     let opened = left .before .before .before .before in
     let left-within = sym (left .before .before .analyse .ensures) ∙ left .left .given .1 in
     let right-within = sym (right .before .before .analyse2 .ensures) ∙ right .right .given .1 in
-    c .own3 .ensures ∙ own-join _ _ _ _ _ _ _ _ (c .before .join .ensures) (opened .before .form-of .ensures)
+    c .own3 .ensures ∙ own-same _ _ _ _ (c .before .join .ensures)
     ∙ sym (record-analysed t opened ∙ by-two _ _ _ _ _ left-within _ (left .before .before .before .if3 .left) not-one _ _ right-within)
 
 analyse-returns-6 : (t : ℕ) → analyse-lts.Need-returns-6 (others t) (analyse-at t) analyse.Post
@@ -183,7 +174,6 @@ pub +analyse-spec : {M : Type 1} → statement M
     (analyse-returns-2 t)
     (analyse-mul-kind t)
     (analyse-shared-slice-read-kind t)
-    (analyse-form-of-requires t)
     (analyse-signature-of-requires t)
     (analyse-leaf-requires t)
     (analyse-add-own t)

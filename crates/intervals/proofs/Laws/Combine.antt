@@ -7,28 +7,32 @@ use mathlib.Core.Path.{_≡_, refl}
 use mathlib.Core.Bool.{cond}
 use mathlib.Core.List.{List}
 use Prim.Native.Nat.{ℕ}
+use borrow.Author.Tests.{le-leb}
 use lib.Dec.{eqb}
 use lib.IntN.{ℤ, _+ℤ_, _-ℤ_, _*ℤ_}
 use Rattle.integers.specs.declared.Interval.{Interval}
-use Rattle.integers.specs.Interval.{In, overEnds}
+use Rattle.integers.specs.Interval.{overEnds}
+use Rattle.integers.specs.Inside.{In}
 use Rattle.integers.proofs.Laws.Parts.{by-test}
 use Rattle.integers.proofs.Laws.Interval.{sum-in, difference-in, product-in}
-use Rattle.records.specs.declared.kinds.Form.the-variants.{Constant, Variable, Arithmetic}
-use Rattle.records.specs.Record.{fieldA, valueB, valueC}
+use Rattle.records.specs.Form.Form.{Constant, Variable, Arithmetic}
+use Rattle.records.specs.Record.{kindAt, fieldA, valueB, valueC}
+use Rattle.records.specs.Form.{formOf, formAt}
+use Rattle.records.proofs.Laws.Kind.{form-range}
 use Rattle.intervals.specs.Interval.{interval, leafOf, combine, joinOf}
 
 module _ (file : List ℕ) (at : ℕ) where
-  pub leaf-constant : leafOf file at Constant ≡ interval (valueB file at) (valueB file at)
+  pub leaf-constant : formAt file at ≡ Constant → leafOf file at ≡ interval (valueB file at) (valueB file at)
   unfolding leafOf
-  leaf-constant = refl
+  leaf-constant is = rw (form-range (kindAt file at) is)
 
-  pub leaf-variable : leafOf file at Variable ≡ interval (valueB file (fieldA file at)) (valueC file (fieldA file at))
+  pub leaf-variable : formAt file at ≡ Variable → leafOf file at ≡ interval (valueB file (fieldA file at)) (valueC file (fieldA file at))
   unfolding leafOf
-  leaf-variable = refl
+  leaf-variable is = rw (form-range (kindAt file at) is)
 
-pub join-arithmetic : (kind : ℕ) (i j : Interval) → joinOf kind Arithmetic i j ≡ overEnds (combine kind) i j
+pub join-arithmetic : (kind : ℕ) → formOf kind ≡ Arithmetic → (i j : Interval) → joinOf kind i j ≡ overEnds (combine kind) i j
 unfolding joinOf
-join-arithmetic kind i j = refl
+join-arithmetic kind is i j = let r = form-range kind is in rw (le-leb _ _ (r .0), le-leb _ _ (r .1))
 
 module _ (x y : ℤ) where
   pub combine-sum : combine 0x12 x y ≡ x +ℤ y

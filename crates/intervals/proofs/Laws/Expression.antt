@@ -11,13 +11,12 @@ use Prim.Native.Nat.{ℕ, zero, suc, _+_, _*_, _/_, _<_, _≤_}
 use native.Mathlib.Omega.{arith}
 use lib.ListN.{length, drop}
 use Rattle.integers.specs.declared.Interval.{Interval}
-use Rattle.integers.specs.Interval.{Bounded}
+use Rattle.integers.specs.Inside.{Bounded}
 use Rattle.records.specs.declared.walk.Walked.the-variants.{End}
 use Rattle.records.specs.Kind.{signatureAt}
 use Rattle.records.specs.Walk.{operandsOf, walkOf, span}
 use Rattle.records.proofs.Laws.Kind.{variable-named}
-use Rattle.records.proofs.Laws.Walk.{walk-opens, walk-deepest, walk-bound}
-use Rattle.records.proofs.Laws.Walk.{operands-one, operands-two}
+use Rattle.records.proofs.Laws.Walk.{walk-opens, walk-deepest, walk-bound, operands-one, operands-two}
 use Rattle.records.proofs.Laws.Span.{walk-span}
 use Rattle.intervals.specs.Expression.{Expression, Operands, Opened}
 use Rattle.intervals.proofs.Laws.Interval.{Analysed, analysis-opens, analysis-bounded, analysis-walk}

@@ -15,25 +15,26 @@ use lib.Seq.{drop-drop}
 use borrow.Author.Tests.{ltb-true}
 use lib.Dec.{ltb}
 use Rattle.integers.specs.declared.Interval.{Interval}
-use Rattle.integers.specs.Interval.{inBounds, Bounded}
+use Rattle.integers.specs.Interval.{inBounds}
+use Rattle.integers.specs.Inside.{Bounded}
 use Rattle.integers.proofs.Laws.Interval.{bounded}
 use Rattle.records.specs.declared.walk.Walked.{Walked}
 use Rattle.records.specs.Record.{kindAt}
-use Rattle.records.specs.Kind.{formAt, signatureAt}
+use Rattle.records.specs.Kind.{signatureAt}
 use Rattle.records.specs.Walk.{walkOf, spans, span}
 use Rattle.records.proofs.Laws.Kind.{operands-most}
-use Rattle.records.proofs.Laws.Span.{form-part, spans-none, spans-one, spans-two, span-opens, span-some, walk-span}
+use Rattle.records.proofs.Laws.Span.{kind-part, spans-none, spans-one, spans-two, span-opens, span-some, walk-span}
 use Rattle.intervals.specs.declared.Analysis.{Analysis}
 use Rattle.intervals.specs.declared.Analysis.the-variants.{Within, Out}
 use Rattle.intervals.specs.Interval.{unit, leafOf, joinOf, ownOf, andInterval, byOperands, analysisOf}
 
 -- where an interval comes from: the record itself, or its operands, one level further in
 pub data Analysed (file : List ℕ) (levels at end : ℕ) : Interval → Type 0 where
-  none : signatureAt file at .operands ≡ 0 → end ≡ at + 1 → Analysed file levels at end (leafOf file at (formAt file at))
+  none : signatureAt file at .operands ≡ 0 → end ≡ at + 1 → Analysed file levels at end (leafOf file at)
   one : {j : Interval} → signatureAt file at .operands ≡ 1 → analysisOf file levels (at + 1) ≡ Within j end → Analysed file levels at end unit
   two : {mid : ℕ} {j k : Interval} → signatureAt file at .operands ≡ 2 → analysisOf file levels (at + 1) ≡ Within j mid
       → analysisOf file levels mid ≡ Within k end
-      → Analysed file levels at end (joinOf (kindAt file at) (formAt file at) j k)
+      → Analysed file levels at end (joinOf (kindAt file at) j k)
 
 module _ (j : Interval) (e : ℕ) where
   own-opens : (i : Interval) (end at : ℕ) → ownOf i end at ≡ Within j e → (i ≡ j) × (end ≡ e) × Bounded j
@@ -53,25 +54,25 @@ module _ (j : Interval) (e : ℕ) where
 
     -- of two operands with the intervals i and k, the second of which ends before `end`
     abbrev joined : Interval → Interval → ℕ → Analysis
-    joined i k end = ownOf (joinOf (kindAt file at) (formAt file at) i k) end at
+    joined i k end = ownOf (joinOf (kindAt file at) i k) end at
 
     abbrev OwnWithin : Type 0
     OwnWithin = Bounded j × Analysed file levels at e j
 
-    one-opens : operands ≡ 1 → (w : Analysis) → operand (at + 1) ≡ w → andInterval w (λ i end. ownOf unit end at) ≡ Within j e → OwnWithin
+    one-opens : operands ≡ 1 → (w : Analysis) → operand (at + 1) ≡ w → andInterval Out w (λ i end. ownOf unit end at) ≡ Within j e → OwnWithin
     one-opens n (Analysis.Within i end) is q =
         let o = own-opens unit end at q in
         (o .2, subst (Analysed file levels at e) (o .0) (one n (is ∙ ap (Within i) (o .1))))
     one-opens n (Analysis.Out place) is q = let z : _≡_ {A = ℕ} 0 1 = cc in absurd (omega arith)
 
     right-opens : operands ≡ 2 → (i : Interval) (mid : ℕ) → operand (at + 1) ≡ Within i mid → (w : Analysis) → operand mid ≡ w
-        → andInterval w (joined i) ≡ Within j e → OwnWithin
+        → andInterval Out w (joined i) ≡ Within j e → OwnWithin
     right-opens n i mid left (Analysis.Within k end) is q =
-        let o = own-opens (joinOf (kindAt file at) (formAt file at) i k) end at q in
+        let o = own-opens (joinOf (kindAt file at) i k) end at q in
         (o .2, subst (Analysed file levels at e) (o .0) (two n left (is ∙ ap (Within k) (o .1))))
     right-opens n i mid left (Analysis.Out place) is q = let z : _≡_ {A = ℕ} 0 1 = cc in absurd (omega arith)
 
-    two-opens : operands ≡ 2 → (w : Analysis) → operand (at + 1) ≡ w → andInterval w (λ i next. andInterval (operand next) (joined i)) ≡ Within j e
+    two-opens : operands ≡ 2 → (w : Analysis) → operand (at + 1) ≡ w → andInterval Out w (λ i next. andInterval Out (operand next) (joined i)) ≡ Within j e
         → OwnWithin
     two-opens n (Analysis.Within i mid) is q = right-opens n i mid is (operand mid) refl q
     two-opens n (Analysis.Out place) is q = let z : _≡_ {A = ℕ} 0 1 = cc in absurd (omega arith)
@@ -79,7 +80,7 @@ module _ (j : Interval) (e : ℕ) where
     by-opens : (n : ℕ) → operands ≡ n → n ≤ 2 → byOperands file at operand n ≡ Within j e → OwnWithin
     unfolding byOperands
     by-opens zero n l q =
-        let o = own-opens (leafOf file at (formAt file at)) (at + 1) at q in
+        let o = own-opens (leafOf file at) (at + 1) at q in
         let ends = o .1 in
         (o .2, subst (Analysed file levels at e) (o .0) (none n (omega arith)))
     by-opens (suc zero) n l q = one-opens n (operand (at + 1)) refl q
@@ -92,7 +93,7 @@ module _ (j : Interval) (e : ℕ) where
       where
         by-place : (b : Bool) → ltb at (length file / 8) ≡ b → cond b (byOperands file at operand operands) (Out at) ≡ Within j e
             → (at < length file / 8) × Bounded j × Analysed file levels at e j
-        by-place true l w = let o = by-opens operands refl (operands-most (formAt file at)) w in (ltb-true _ _ l, o .0, o .1)
+        by-place true l w = let o = by-opens operands refl (operands-most (kindAt file at)) w in (ltb-true _ _ l, o .0, o .1)
         by-place false l w = let z : _≡_ {A = ℕ} 0 1 = cc in absurd (omega arith)
 
   pub analysis-deepest : (file : List ℕ) (at : ℕ) → analysisOf file zero at ≡ Within j e → ⊥
@@ -122,7 +123,7 @@ module _ (file : List ℕ) (levels at end : ℕ)
 pub analysis-span : (file : List ℕ) (levels at end : ℕ) (i : Interval) → analysisOf file levels at ≡ Within i end → end ≡ at + span levels (drop (8 * at) file)
 analysis-span file zero at end i q = absurd (analysis-deepest i end file at q)
 analysis-span file (suc levels) at end i q =
-    rw (span-opens {below = levels} refl (drop (8 * at) file) (form-part file at))
+    rw (span-opens {below = levels} refl (drop (8 * at) file) (kind-part file at))
     (analysed-span file levels at end (analysis-span file levels) (analysis-opens i end file levels at q .2))
 
 pub analysis-walk : (file : List ℕ) (vars levels want at end : ℕ) (j : Interval) (e : ℕ)

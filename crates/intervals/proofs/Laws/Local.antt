@@ -2,31 +2,33 @@
 --     analysis-local       the copy's interval, and where it ends
 --     expression-local     so the copy is an expression of its file
 -- Assumes nothing.
-use mathlib.Core.Path.{_≡_, refl, sym}
+use mathlib.Core.Path.{_≡_, refl, sym, ap}
+use mathlib.Core.Bool.{cond}
 use mathlib.Core.List.{List}
 use Prim.Native.Nat.{ℕ, zero, suc, _+_, _-_, _/_, _<_}
 use native.Mathlib.Nat.{zero-add}
 use native.Mathlib.Omega.{arith}
-use borrow.Author.Tests.{lt-ltb}
+use borrow.Author.Tests.{lt-ltb, eqb-true}
 use lib.ListN.{length}
+use lib.Dec.{eqb}
 use Rattle.integers.specs.declared.Interval.{Interval}
-use Rattle.integers.specs.Interval.{Bounded}
+use Rattle.integers.specs.Inside.{Bounded}
+use Rattle.integers.proofs.Laws.Parts.{by-test}
 use Rattle.integers.proofs.Laws.Interval.{bounded-test}
-use Rattle.records.specs.declared.kinds.Form.{Form}
-use Rattle.records.specs.declared.kinds.Form.the-variants.{Constant, Variable, Arithmetic, Indicator, Literal, Negation, Connective, Comparison, Unfit}
-use Rattle.records.specs.Record.{kindAt, fieldA}
-use Rattle.records.specs.Kind.{formAt, signatureAt}
-use Rattle.records.proofs.Laws.Kind.{variable-named}
-use Rattle.records.proofs.Laws.Local.{recordsOf, SameRecord, same-record, kind-same, a-same, b-same, c-same}
-use Rattle.records.proofs.Laws.Local.{Copy, CopiedRecord, copy-opens, walk-local}
+use Rattle.records.specs.Form.Form.{Variable}
+use Rattle.records.specs.Record.{kindAt, fieldA, valueB, valueC}
+use Rattle.records.specs.Kind.{signatureAt}
+use Rattle.records.specs.Form.{formAt}
+use Rattle.records.proofs.Laws.Kind.{variable-form, variable-named}
+use Rattle.records.proofs.Laws.Local.{recordsOf, SameRecord, same-record, kind-same, a-same, b-same, c-same, Copy, CopiedRecord, copy-opens, walk-local}
 use Rattle.intervals.specs.declared.Analysis.the-variants.{Within}
-use Rattle.intervals.specs.Interval.{unit, leafOf, joinOf, ownOf, byOperands, analysisOf}
+use Rattle.intervals.specs.Interval.{interval, unit, leafOf, joinOf, ownOf, byOperands, analysisOf}
 use Rattle.intervals.specs.Expression.{Expression}
 use Rattle.intervals.proofs.Laws.Interval.{Analysed, analysis-opens, analysis-deepest, analysis-walk}
 
 -- ---- an analysis from its parts
 module _ (file : List ℕ) (levels at : ℕ) {i : Interval} (l : at < length file / 8) (b : Bounded i) where
-  none-closes : signatureAt file at .operands ≡ 0 → leafOf file at (formAt file at) ≡ i → analysisOf file (suc levels) at ≡ Within i (at + 1)
+  none-closes : signatureAt file at .operands ≡ 0 → leafOf file at ≡ i → analysisOf file (suc levels) at ≡ Within i (at + 1)
   unfolding analysisOf byOperands ownOf
   none-closes m is = rw (lt-ltb _ _ l, m, is, bounded-test b)
 
@@ -35,7 +37,7 @@ module _ (file : List ℕ) (levels at : ℕ) {i : Interval} (l : at < length fil
   unfolding analysisOf byOperands ownOf
   one-closes m is j end q = rw (lt-ltb _ _ l, m, q, is, bounded-test b)
 
-  two-closes : signatureAt file at .operands ≡ 2 → (j k : Interval) → joinOf (kindAt file at) (formAt file at) j k ≡ i → (mid end : ℕ)
+  two-closes : signatureAt file at .operands ≡ 2 → (j k : Interval) → joinOf (kindAt file at) j k ≡ i → (mid end : ℕ)
       → analysisOf file levels (at + 1) ≡ Within j mid → analysisOf file levels mid ≡ Within k end → analysisOf file (suc levels) at ≡ Within i end
   unfolding analysisOf byOperands ownOf
   two-closes m j k is mid end p q = rw (lt-ltb _ _ l, m, p, q, is, bounded-test b)
@@ -45,20 +47,15 @@ module _ (file file′ : List ℕ) (vars : ℕ) (ranges : recordsOf file 0 vars 
   range-same : (v : ℕ) → v < vars → SameRecord file file′ v v
   range-same v l = rw zero-add at (same-record file file′ 0 0 vars ranges v l)
 
-  leaf-same : (at at′ : ℕ) → SameRecord file file′ at at′ → (f : Form) → (f ≡ Variable → fieldA file at < vars) → leafOf file at f ≡ leafOf file′ at′ f
+  leaf-same : (at at′ : ℕ) → SameRecord file file′ at at′ → (formAt file at ≡ Variable → fieldA file at < vars) → leafOf file at ≡ leafOf file′ at′
   unfolding leafOf
-  leaf-same at at′ byte Constant named = rw (b-same file file′ at at′ byte)
-  leaf-same at at′ byte Variable named =
+  leaf-same at at′ byte named =
       let v = fieldA file at in
-      let range = range-same v (named refl) in
-      rw (← a-same file file′ at at′ byte, b-same file file′ v v range, c-same file file′ v v range)
-  leaf-same at at′ byte Arithmetic named = refl
-  leaf-same at at′ byte Indicator named = refl
-  leaf-same at at′ byte Literal named = refl
-  leaf-same at at′ byte Negation named = refl
-  leaf-same at at′ byte Connective named = refl
-  leaf-same at at′ byte Comparison named = refl
-  leaf-same at at′ byte Unfit named = refl
+      let range : List ℕ → Interval = λ f. interval (valueB f v) (valueC f v) in
+      rw (← kind-same file file′ at at′ byte, ← a-same file file′ at at′ byte, ← b-same file file′ at at′ byte)
+      (ap (cond (eqb (kindAt file at) 0x10) _)
+      (by-test (eqb (kindAt file at) 0x11) (λ t. cond t (range file) unit ≡ cond t (range file′) unit)
+      (λ e. let same = range-same v (named (variable-form (eqb-true _ _ e))) in rw (b-same file file′ v v same, c-same file file′ v v same)) (λ e. refl)))
 
   module _ (levels want at at′ n : ℕ) (o : CopiedRecord file file′ vars levels want at at′ n)
       (operand : (want x x′ k : ℕ) (j : Interval) → Copy file file′ vars levels want x x′ k → analysisOf file levels x ≡ Within j (x + k)
@@ -69,8 +66,8 @@ module _ (file file′ : List ℕ) (vars : ℕ) (ranges : recordsOf file 0 vars 
     analysed-local : {i : Interval} → Bounded i → Analysed file levels at (at + n) i → analysisOf file′ (suc levels) at′ ≡ Within i (at′ + n)
     analysed-local b (Analysed.none m e) =
         let z : at′ + n ≡ at′ + 1 = omega arith in
-        let leaf = leaf-same at at′ (o .byte) (formAt file at) (λ f. variable-named file vars at f (o .fields)) in
-        rw z (none-closes file′ levels at′ (o .there) b (rw (← kind) m) (rw (← kind) (sym leaf)))
+        let leaf = leaf-same at at′ (o .byte) (λ f. variable-named file vars at f (o .fields)) in
+        rw z (none-closes file′ levels at′ (o .there) b (rw (← kind) m) (sym leaf))
     analysed-local b (Analysed.one {j} m l) =
         let some = o .some in
         let y : at + n ≡ at + 1 + (n - 1) = omega arith in

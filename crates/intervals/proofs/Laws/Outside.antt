@@ -17,22 +17,22 @@ use Rattle.integers.proofs.Laws.Parts.{ints}
 use Rattle.integers.proofs.Laws.Interval.{bounded-test}
 use Rattle.records.specs.declared.walk.Walked.{Walked}
 use Rattle.records.specs.Record.{kindAt}
-use Rattle.records.specs.Kind.{none, formAt, signatureAt}
+use Rattle.records.specs.Kind.{none, signatureAt}
 use Rattle.records.proofs.Laws.Kind.{operands-most}
 use Rattle.intervals.specs.declared.Analysis.{Analysis}
 use Rattle.intervals.specs.declared.Analysis.the-variants.{Within, Out}
-use Rattle.intervals.specs.Interval.{unit, leafOf, joinOf, ownOf, andInterval, byOperands, analysisOf, andExpression, analysedFrom, intervalsOf}
+use Rattle.intervals.specs.Interval.{unit, leafOf, joinOf, ownOf, andInterval, byOperands, analysisOf, analysedFrom, intervalsOf}
 use Rattle.intervals.proofs.Laws.Interval.{analysis-within}
 
 -- what goes out: the record itself, or an operand, one level further in
 pub data OutFrom (file : List ℕ) (levels at place : ℕ) : Type 0 where
-  leaf : signatureAt file at .operands ≡ 0 → at ≡ place → inBounds (leafOf file at (formAt file at)) ≡ false → OutFrom file levels at place
+  leaf : signatureAt file at .operands ≡ 0 → at ≡ place → inBounds (leafOf file at) ≡ false → OutFrom file levels at place
   one : signatureAt file at .operands ≡ 1 → analysisOf file levels (at + 1) ≡ Out place → OutFrom file levels at place
   left : signatureAt file at .operands ≡ 2 → analysisOf file levels (at + 1) ≡ Out place → OutFrom file levels at place
   right : {mid : ℕ} {j : Interval} → signatureAt file at .operands ≡ 2 → analysisOf file levels (at + 1) ≡ Within j mid
       → analysisOf file levels mid ≡ Out place → OutFrom file levels at place
   join : {mid end : ℕ} {j k : Interval} → signatureAt file at .operands ≡ 2 → at ≡ place → analysisOf file levels (at + 1) ≡ Within j mid
-      → analysisOf file levels mid ≡ Within k end → inBounds (joinOf (kindAt file at) (formAt file at) j k) ≡ false → OutFrom file levels at place
+      → analysisOf file levels mid ≡ Within k end → inBounds (joinOf (kindAt file at) j k) ≡ false → OutFrom file levels at place
 
 -- an indicator's interval is in bounds
 unit-inside : inBounds unit ≡ true
@@ -56,34 +56,34 @@ module _ (file : List ℕ) (place : ℕ) where
 
     -- of two operands with the intervals i and k, the second of which ends before `end`
     abbrev joined : Interval → Interval → ℕ → Analysis
-    joined i k end = ownOf (joinOf (kindAt file at) (formAt file at) i k) end at
+    joined i k end = ownOf (joinOf (kindAt file at) i k) end at
 
-    one-out : operands ≡ 1 → (a : Analysis) → operand (at + 1) ≡ a → andInterval a (λ i end. ownOf unit end at) ≡ Out place → OutFrom file levels at place
+    one-out : operands ≡ 1 → (a : Analysis) → operand (at + 1) ≡ a → andInterval Out a (λ i end. ownOf unit end at) ≡ Out place → OutFrom file levels at place
     one-out n (Analysis.Within i e) is q = absurd (false≢true (sym (own-out unit e at q .1) ∙ unit-inside))
     one-out n (Analysis.Out p) is q = one n (is ∙ q)
 
     right-out : operands ≡ 2 → (i : Interval) (mid : ℕ) → operand (at + 1) ≡ Within i mid → (a : Analysis) → operand mid ≡ a
-        → andInterval a (joined i) ≡ Out place → OutFrom file levels at place
+        → andInterval Out a (joined i) ≡ Out place → OutFrom file levels at place
     right-out n i mid l (Analysis.Within k e) is q =
-        let o = own-out (joinOf (kindAt file at) (formAt file at) i k) e at q in
+        let o = own-out (joinOf (kindAt file at) i k) e at q in
         join n (o .0) l is (o .1)
     right-out n i mid l (Analysis.Out p) is q = right n l (is ∙ q)
 
-    two-out : operands ≡ 2 → (a : Analysis) → operand (at + 1) ≡ a → andInterval a (λ i next. andInterval (operand next) (joined i)) ≡ Out place
+    two-out : operands ≡ 2 → (a : Analysis) → operand (at + 1) ≡ a → andInterval Out a (λ i next. andInterval Out (operand next) (joined i)) ≡ Out place
         → OutFrom file levels at place
     two-out n (Analysis.Within i mid) is q = right-out n i mid is (operand mid) refl q
     two-out n (Analysis.Out p) is q = left n (is ∙ q)
 
     by-out : (n : ℕ) → operands ≡ n → n ≤ 2 → byOperands file at operand n ≡ Out place → OutFrom file levels at place
     unfolding byOperands
-    by-out zero n l q = let o = own-out (leafOf file at (formAt file at)) (at + 1) at q in leaf n (o .0) (o .1)
+    by-out zero n l q = let o = own-out (leafOf file at) (at + 1) at q in leaf n (o .0) (o .1)
     by-out (suc zero) n l q = one-out n (operand (at + 1)) refl q
     by-out (suc (suc zero)) n l q = two-out n (operand (at + 1)) refl q
     by-out (suc (suc (suc m))) n l q = absurd (omega arith)
 
     pub out-opens : at < length file / 8 → analysisOf file (suc levels) at ≡ Out place → OutFrom file levels at place
     unfolding analysisOf
-    out-opens here q = by-out operands refl (operands-most (formAt file at)) (simp (lt-ltb _ _ here) at q)
+    out-opens here q = by-out operands refl (operands-most (kindAt file at)) (simp (lt-ltb _ _ here) at q)
 
   -- ---- where
   abbrev PlaceWithin : ℕ → Type 0
@@ -114,8 +114,8 @@ module _ (file : List ℕ) (number place : ℕ) where
   refused-by : (n at : ℕ) → at ≤ length file / 8
       → ((x : ℕ) → x ≤ length file / 8 → analysedFrom file n x ≡ Walked.Refused number place → Right)
       → (here skip : Bool) (a : Analysis) → ltb at (length file / 8) ≡ here → analysisOf file 16 at ≡ a
-      → cond here (cond skip (analysedFrom file n (at + 1)) (andExpression a (analysedFrom file n))) (Walked.End at) ≡ Walked.Refused number place
-      → Right
+      → cond here (cond skip (analysedFrom file n (at + 1)) (andInterval (Walked.Refused 8) a λ i. analysedFrom file n)) (Walked.End at)
+      ≡ Walked.Refused number place → Right
   refused-by n at l later true true a here is e = let z = ltb-true at (length file / 8) here in later (at + 1) (omega arith) e
   refused-by n at l later true false (Analysis.Within i end) here is e = later end (analysis-within file 16 at end i is) e
   refused-by n at l later true false (Analysis.Out p) here is e =

@@ -16,13 +16,13 @@ use lib.ListN.{length}
 use Rattle.integers.specs.declared.Interval.{Interval}
 use Rattle.records.specs.declared.walk.Walked.{Walked}
 use Rattle.records.specs.Record.{kindIs}
-use Rattle.records.specs.Kind.{none, formOf, signatureOf, signatureAt}
+use Rattle.records.specs.Kind.{none, signatureOf, signatureAt}
 use Rattle.records.specs.Walk.{walkOf}
 use Rattle.records.proofs.Laws.Record.{kind-is}
 use Rattle.records.proofs.Laws.Walk.{walk-opens}
 use Rattle.intervals.specs.declared.Analysis.{Analysis}
 use Rattle.intervals.specs.declared.Analysis.the-variants.{Within, Out}
-use Rattle.intervals.specs.Interval.{analysisOf, andExpression, analysedFrom, intervalsOf}
+use Rattle.intervals.specs.Interval.{andInterval, analysisOf, analysedFrom, intervalsOf}
 use Rattle.intervals.proofs.Laws.Interval.{analysis-walk, analysis-ahead}
 
 -- the expressions from `at` on, with steps enough for them, give the answer
@@ -59,7 +59,7 @@ module _ (file : List ℕ) (answer : Walked) where
 
       module _ (some : signatureAt file at .sort ≡ none → ⊥) where
         analysed-here : (left : ℕ) → length file / 8 ≤ at + left
-            → analysedFrom file left at ≡ andExpression (analysisOf file 16 at) (analysedFrom file (left - 1))
+            → analysedFrom file left at ≡ andInterval (Walked.Refused 8) (analysisOf file 16 at) λ i. analysedFrom file (left - 1)
         unfolding analysedFrom
         analysed-here zero l = absurd (omega arith)
         analysed-here (suc left) l = rw (lt-ltb _ _ here, ne-eqb _ _ some, sub-one)
@@ -73,7 +73,7 @@ module _ (file : List ℕ) (answer : Walked) where
             let l = s .enough in
             record { left = s .left - 1; enough = omega arith; gives = sym (analysed-here (s .left) l ∙ rw q) ∙ s .gives }
 
-  pub scan-head : (kind at : ℕ) → signatureOf (formOf kind) .sort ≡ none → kindIs file kind at ≡ true → Scan file answer at → Scan file answer (at + 1)
+  pub scan-head : (kind at : ℕ) → signatureOf kind .sort ≡ none → kindIs file kind at ≡ true → Scan file answer at → Scan file answer (at + 1)
   scan-head kind at u k s =
       let b = kind-is file kind at k in
       scan-skip at (b .0) (rw (b .1) u) s

@@ -1,49 +1,18 @@
--- One step of `analysisOf`, by the tests in their order, and the forms that a `match`'s last arm stands for.
+-- One step of `analysisOf`, by the tests in their order.
 -- Assumes nothing.
 use mathlib.Core.Path.{_≡_, refl, ap}
-use mathlib.Core.List.{List, [], _∷_}
-use Prim.Native.Nat.{ℕ, zero, suc, _+_, _-_, _*_, _/_, _<_, _≤_}
+use mathlib.Core.List.{List}
+use Prim.Native.Nat.{ℕ, zero, suc, _+_, _-_, _/_, _<_, _≤_}
 use native.Mathlib.Numerals.{sub-one}
 use native.Mathlib.Omega.{arith}
-use types.Run.{OneOf, miss}
-use denote.Enum.Declared.{tagOf}
 use borrow.Author.Tests.{lt-ltb, le-ltb}
-use lib.ListN.{length, getD}
+use lib.ListN.{length}
 use Rattle.integers.specs.declared.Interval.{Interval}
-use Rattle.records.proofs.kinds.Form.{the-type}
-use Rattle.records.specs.declared.kinds.Form.{Form}
-use Rattle.records.specs.declared.kinds.Form.the-variants.{Constant, Variable, Arithmetic, Indicator, Literal, Negation, Connective, Comparison, Unfit}
 use Rattle.records.specs.declared.kinds.Signature.{Signature}
-use Rattle.records.specs.Kind.{formAt, signatureAt}
+use Rattle.records.specs.Record.{kindAt}
+use Rattle.records.specs.Kind.{signatureAt}
 use Rattle.intervals.specs.declared.Analysis.{Analysis}
 use Rattle.intervals.specs.Interval.{unit, leafOf, joinOf, ownOf, byOperands, analysisOf}
-
-abbrev pub others : List ℕ
-others = 2 ∷ 3 ∷ 4 ∷ 5 ∷ 6 ∷ 7 ∷ 8 ∷ []
-
-pub leaf-other : (file : List ℕ) (at : ℕ) (f : Form) → OneOf others (tagOf the-type f) → leafOf file at f ≡ unit
-unfolding leafOf
-leaf-other file at Constant h = absurd (miss others 0 tt h)
-leaf-other file at Variable h = absurd (miss others 1 tt h)
-leaf-other file at Arithmetic h = refl
-leaf-other file at Indicator h = refl
-leaf-other file at Literal h = refl
-leaf-other file at Negation h = refl
-leaf-other file at Connective h = refl
-leaf-other file at Comparison h = refl
-leaf-other file at Unfit h = refl
-
-pub join-other : (kind : ℕ) (f : Form) (i j : Interval) → OneOf (0 ∷ 1 ∷ 3 ∷ 4 ∷ 5 ∷ 6 ∷ 7 ∷ 8 ∷ []) (tagOf the-type f) → joinOf kind f i j ≡ unit
-unfolding joinOf
-join-other kind Constant i j h = refl
-join-other kind Variable i j h = refl
-join-other kind Arithmetic i j h = absurd (miss (0 ∷ 1 ∷ 3 ∷ 4 ∷ 5 ∷ 6 ∷ 7 ∷ 8 ∷ []) 2 tt h)
-join-other kind Indicator i j h = refl
-join-other kind Literal i j h = refl
-join-other kind Negation i j h = refl
-join-other kind Connective i j h = refl
-join-other kind Comparison i j h = refl
-join-other kind Unfit i j h = refl
 
 module _ (file : List ℕ) (at : ℕ) where
   pub analyse-deep : (levels : ℕ) → levels ≡ 0 → analysisOf file levels at ≡ Analysis.Out at
@@ -63,7 +32,7 @@ module _ (file : List ℕ) (at : ℕ) where
   analyse-step s is (suc levels) l h = rw (is, lt-ltb _ _ l, sub-one)
 
   module _ (operand : ℕ → Analysis) where
-    pub by-none : (n : ℕ) → n ≡ 0 → byOperands file at operand n ≡ ownOf (leafOf file at (formAt file at)) (at + 1) at
+    pub by-none : (n : ℕ) → n ≡ 0 → byOperands file at operand n ≡ ownOf (leafOf file at) (at + 1) at
     unfolding byOperands
     by-none zero h = refl
     by-none (suc n) h = absurd (omega arith)
@@ -88,7 +57,7 @@ module _ (file : List ℕ) (at : ℕ) where
       by-two-out (suc (suc n)) place h k e = rw (left, e)
 
       pub by-two : (n : ℕ) → (n ≡ 0 → ⊥) → (n ≡ 1 → ⊥) → (j : Interval) (end : ℕ) → operand next ≡ Analysis.Within j end
-          → byOperands file at operand n ≡ ownOf (joinOf (getD file (8 * at) 0) (formAt file at) i j) end at
+          → byOperands file at operand n ≡ ownOf (joinOf (kindAt file at) i j) end at
       unfolding byOperands
       by-two zero h k j end e = absurd (h refl)
       by-two (suc zero) h k j end e = absurd (k refl)
@@ -96,7 +65,3 @@ module _ (file : List ℕ) (at : ℕ) where
 
 pub own-same : (i j : Interval) (end at : ℕ) → i ≡ j → ownOf i end at ≡ ownOf j end at
 own-same i j end at e = ap (λ (k : Interval). ownOf k end at) e
-
-pub own-join : (r : Interval) (kind : ℕ) (f g : Form) (i j : Interval) (end at : ℕ) → r ≡ joinOf kind f i j → f ≡ g
-    → ownOf r end at ≡ ownOf (joinOf kind g i j) end at
-own-join r kind f g i j end at e h = rw (e, h)

@@ -12,7 +12,7 @@ use native.Mathlib.Omega.{arith}
 use lib.ListN.{length, drop}
 use Rattle.states.proofs.Laws.State.{within-length}
 use Rattle.diagrams.specs.declared.Diagram.{Diagram}
-use Rattle.diagrams.specs.declared.Found.{Found}
+use Rattle.shapes.specs.declared.Reading.{Reading}
 use Rattle.diagrams.specs.Diagram.{foundOf, diagramOf, Loaded}
 use Rattle.diagrams.proofs.Laws.Diagram.{find-refuses, diagram-loaded, readable-loaded, loaded-readable, promised}
 use Rattle.report.specs.declared.Verdict.{Verdict}
@@ -33,8 +33,8 @@ judged file g r = rw (r .is) (verdict-found file (r .outline) (r .found))
 accepted-claims : (file : List ℕ) → verdictOf file .number ≡ 0 → Claim file
 accepted-claims file e = go (foundOf file) refl
   where
-    go : (x : Found) → foundOf file ≡ x → Claim file
-    go (Found.Diagram o) is =
+    go : (x : Reading) → foundOf file ≡ x → Claim file
+    go (Reading.Found o) is =
         let g = diagramOf file o in
         let r = diagram-loaded file o is in
         record {
@@ -42,7 +42,7 @@ accepted-claims file e = go (foundOf file) refl
           readable = loaded-readable file g r;
           claimed = sound file g r (accepted file g r (number-is (sym (judged file g r)) ∙ e));
         }
-    go (Found.Refused number place) is =
+    go (Reading.Refused number place) is =
         absurd (omega (arith, number-is (sym (verdict-refused file number place is)) ∙ e, find-refuses file number place is .0))
 
 module _ (file : List ℕ) (room : ℕ) where
@@ -75,9 +75,9 @@ judged-values file g r = go (ℕ-discrete (judgedOf file g .number) 0)
 verdict-values : (file : List ℕ) → length (verdictOf file .values) ≡ 12
 verdict-values file = go (foundOf file) refl
   where
-    go : (x : Found) → foundOf file ≡ x → length (verdictOf file .values) ≡ 12
-    go (Found.Diagram o) is = let r = diagram-loaded file o is in rw (judged file (diagramOf file o) r) (judged-values file (diagramOf file o) r)
-    go (Found.Refused number place) is = rw (verdict-refused file number place is) refl
+    go : (x : Reading) → foundOf file ≡ x → length (verdictOf file .values) ≡ 12
+    go (Reading.Found o) is = let r = diagram-loaded file o is in rw (judged file (diagramOf file o) r) (judged-values file (diagramOf file o) r)
+    go (Reading.Refused number place) is = rw (verdict-refused file number place is) refl
 
 check-values : (file : List ℕ) (room : ℕ) → length (checkOf file room .values) ≡ 12
 check-values file room = go (decLt room 32)

@@ -1,5 +1,6 @@
 -- A refusal of parsing has a number of 2 or more, and its place is a record of the file or the record count, so at most 4,096.
 --     refused, by-test, refuses-more     answers of any type, by how they are made
+--     walk-then                          what follows a part
 --     parse-refuses                      the whole file
 -- Each definition of parsing is gone through as it stands: a test has two sides, and what follows a part keeps the part's refusal.
 -- Assumes nothing.
@@ -13,13 +14,12 @@ use lib.ListN.{length}
 use lib.Dec.{leb, eqb}
 use Rattle.records.specs.declared.walk.Walked.{Walked}
 use Rattle.sections.specs.declared.Section.{Section}
-use Rattle.parsing.specs.declared.Parsed.{Parsed}
+use Rattle.shapes.specs.declared.Reading.{Reading}
 use Rattle.records.specs.Record.{kindIs}
 use Rattle.records.specs.Kind.{truth}
-use Rattle.records.specs.Walk.{inSequence, truthOf}
+use Rattle.records.specs.Walk.{andThen, inSequence, truthOf}
 use Rattle.sections.specs.Section.{noFields, propertyAt, propertyFields, variablesOf, transitionsOf, expressionsOf, phasesOr, nodesOf, edgesOf}
-use Rattle.parsing.specs.Outline.{andParse, andSection}
-use Rattle.parsing.specs.Outline.{edgesParsed, nodesParsed, propertyParsed, transitionsParsed, startParsed, parsedOf}
+use Rattle.parsing.specs.Outline.{andSection, nodesParsed, propertyParsed, transitionsParsed, startParsed, parsedOf}
 use Rattle.parsing.specs.Refusal.{Refuses}
 use Rattle.records.proofs.Laws.Record.{kind-is}
 use Rattle.records.proofs.Laws.Walk.{walk-bound}
@@ -36,8 +36,8 @@ pub record Refusing {A : Type 0} (refuse : ℕ → ℕ → A) : Type 0 where
 pub walked : Refusing Walked.Refused
 walked = record { same = λ n p m q e. (cc, cc) }
 
-parsed : Refusing Parsed.Refused
-parsed = record { same = λ n p m q e. (cc, cc) }
+pub reading : Refusing Reading.Refused
+reading = record { same = λ n p m q e. (cc, cc) }
 
 module _ {A : Type 0} {refuse : ℕ → ℕ → A} {most : ℕ} where
   pub refused : Refusing refuse → (n p : ℕ) → 2 ≤ n → p ≤ most → Refuses refuse most (refuse n p)
@@ -61,23 +61,23 @@ walked-ends number place e = let z : _≡_ {A = ℕ} 0 1 = cc in absurd (omega a
 
 -- ---- what follows a part of the file: it keeps the part's refusal
 module _ {most : ℕ} where
-  parse-then : (w : Walked) {next : ℕ → Parsed} → Refuses Walked.Refused most w
-      → ((x : ℕ) → w ≡ Walked.End x → Refuses Parsed.Refused most (next x)) → Refuses Parsed.Refused most (andParse w next)
-  parse-then (Walked.End x) h k = k x refl
-  parse-then (Walked.Refused n p) h k = handed-on parsed refl h
+  pub walk-then : (w : Walked) {next : ℕ → Reading} → Refuses Walked.Refused most w
+      → ((x : ℕ) → w ≡ Walked.End x → Refuses Reading.Refused most (next x)) → Refuses Reading.Refused most (andThen Reading.Refused w next)
+  walk-then (Walked.End x) h k = k x refl
+  walk-then (Walked.Refused n p) h k = handed-on reading refl h
 
-  section-then : (s : Section) {next : ℕ → ℕ → Parsed} → Refuses Section.Refused most s
-      → ((n x : ℕ) → s ≡ Section.Items n x → Refuses Parsed.Refused most (next n x)) → Refuses Parsed.Refused most (andSection s next)
+  section-then : (s : Section) {next : ℕ → ℕ → Reading} → Refuses Section.Refused most s
+      → ((n x : ℕ) → s ≡ Section.Items n x → Refuses Reading.Refused most (next n x)) → Refuses Reading.Refused most (andSection s next)
   section-then (Section.Items n x) h k = k n x refl
-  section-then (Section.Refused n p) h k = handed-on parsed refl h
+  section-then (Section.Refused n p) h k = handed-on reading refl h
 
 -- ---- the whole file
 module _ (file : List ℕ) where
   abbrev count : ℕ
   count = length file / 8
 
-  abbrev Right : Parsed → Type 0
-  Right = Refuses Parsed.Refused count
+  abbrev Right : Reading → Type 0
+  Right = Refuses Reading.Refused count
 
   -- what is known of the refusals of a walk or a section
   right : {A : Type 0} {refuse : ℕ → ℕ → A} {x : A} → ((n p : ℕ) → x ≡ refuse n p → (3 ≤ n) × (p ≤ count)) → Refuses refuse count x
@@ -89,15 +89,6 @@ module _ (file : List ℕ) where
   walk-ends : (vars at end : ℕ) → truthOf file vars at ≡ Walked.End end → end ≤ count
   walk-ends vars at end e = walk-bound file vars 16 truth at end e .1
 
-  edges-refuses : (vars transition transitions property node nodes at : ℕ) → at ≤ count
-      → Right (edgesParsed file vars transition transitions property node nodes at)
-  unfolding edgesParsed
-  edges-refuses vars transition transitions property node nodes at l =
-      section-then (edgesOf file transitions nodes at) (right (λ n p. refused-edges file n p transitions nodes at l))
-      (λ n x e.
-      by-test (eqb x count) (λ t number place q. let z : _≡_ {A = ℕ} 0 1 = cc in absurd (omega arith))
-      (λ t. refused parsed 3 x (omega arith) (edges-through _ _ _ _ _ _ e (λ i. i ≤ count) (past 0x07) l)))
-
   nodes-refuses : (vars transition transitions property at : ℕ) → at ≤ count → Right (nodesParsed file vars transition transitions property at)
   unfolding nodesParsed
   nodes-refuses vars transition transitions property at l =
@@ -106,7 +97,13 @@ module _ (file : List ℕ) where
       section-then (nodesOf file vars ranks most at) (right (λ n p. refused-nodes file n p vars ranks most at l))
       (λ n x e.
       let m = nodes-through _ _ _ _ _ _ _ e (λ i. i ≤ count) (λ i y k q a. node-bound file vars ranks i y q .1) l in
-      by-test (leb (phasesOr file property 1) n) (λ t. edges-refuses vars transition transitions property at n x m) (λ t. refused parsed 3 x (omega arith) m))
+      by-test (leb (phasesOr file property 1) n)
+      (λ t.
+      section-then (edgesOf file transitions n x) (right (λ a b. refused-edges file a b transitions n x m))
+      (λ k y q.
+      by-test (eqb y count) (λ u number place f. let z : _≡_ {A = ℕ} 0 1 = cc in absurd (omega arith))
+      (λ u. refused reading 3 y (omega arith) (edges-through _ _ _ _ _ _ q (λ i. i ≤ count) (past 0x07) m))))
+      (λ t. refused reading 3 x (omega arith) m))
 
   property-refuses : (vars transition transitions at : ℕ) → at ≤ count → Right (propertyParsed file vars transition transitions at)
   unfolding propertyParsed
@@ -117,13 +114,13 @@ module _ (file : List ℕ) where
       let m = past 0x05 at k l in
       by-test (propertyFields file at)
       (λ f.
-      parse-then (inSequence (truthOf file vars) n (at + 1))
+      walk-then (inSequence (truthOf file vars) n (at + 1))
       (right (λ a b. refused-sequence (truthOf file vars) count a b _ (walk-ends vars) (refused-walk file vars a b 16 truth) n (at + 1) m))
       (λ x e.
       nodes-refuses vars transition transitions at x
       (sequence-through (truthOf file vars) (λ i. i ≤ count) (λ i y q p. walk-ends vars i y q) x n (at + 1) e m)))
-      (λ f. refused parsed 4 at (omega arith) l))
-      (λ k. refused parsed 3 at (omega arith) l)
+      (λ f. refused reading 4 at (omega arith) l))
+      (λ k. refused reading 3 at (omega arith) l)
 
   transitions-refuses : (vars at : ℕ) → at ≤ count → Right (transitionsParsed file vars at)
   unfolding transitionsParsed
@@ -141,12 +138,12 @@ module _ (file : List ℕ) where
       by-test (noFields file at)
       (λ f.
       let m = past 0x02 at (and-eq-true-iff (leb 1 vars) (kindIs file 0x02 at) .0 k .1) l in
-      parse-then (truthOf file vars (at + 1)) (right (λ n p. refused-walk file vars n p 16 truth (at + 1) m))
+      walk-then (truthOf file vars (at + 1)) (right (λ n p. refused-walk file vars n p 16 truth (at + 1) m))
       (λ x e. transitions-refuses vars x (walk-ends vars (at + 1) x e)))
-      (λ f. refused parsed 4 at (omega arith) l))
-      (λ k. refused parsed 3 at (omega arith) l)
+      (λ f. refused reading 4 at (omega arith) l))
+      (λ k. refused reading 3 at (omega arith) l)
 
-  pub parse-refuses : Refuses Parsed.Refused 4096 (parsedOf file)
+  pub parse-refuses : Refuses Reading.Refused 4096 (parsedOf file)
   unfolding parsedOf
   parse-refuses =
       let whole = eqb (length file % 8) 0 in
@@ -156,4 +153,4 @@ module _ (file : List ℕ) where
       refuses-more (omega arith)
       (section-then (variablesOf file) (right (λ n p. refused-variables file n p))
       (λ n x e. start-refuses n x (variables-through _ _ _ e (λ i. i ≤ count) (past 0x01) (omega arith)))))
-      (λ t. refused parsed 2 0 (omega arith) (omega arith))
+      (λ t. refused reading 2 0 (omega arith) (omega arith))

@@ -12,7 +12,7 @@ use lib.ListN.{length, replicate}
 use Rattle.records.specs.declared.walk.Walked.the-variants.{End}
 use Rattle.shapes.specs.declared.Outline.{Outline}
 use Rattle.records.specs.Record.{kindIs}
-use Rattle.records.specs.Kind.{none, number, truth, formOf, signatureOf}
+use Rattle.records.specs.Kind.{none, number, truth, signatureOf}
 use Rattle.records.specs.Walk.{walkOf, truthOf}
 use Rattle.sections.specs.Section.{transitionOf, expressionsOf, nodeOf}
 use Rattle.records.proofs.Laws.Kind.{head-none}
@@ -22,14 +22,14 @@ use Rattle.parsing.proofs.Laws.Outline.{Parses}
 
 -- what is carried past a record that begins an item, and past an expression
 abbrev PastHead : List ℕ → (ℕ → Type 0) → Type 0
-PastHead file P = (kind at : ℕ) → signatureOf (formOf kind) .sort ≡ none → kindIs file kind at ≡ true → P at → P (at + 1)
+PastHead file P = (kind at : ℕ) → signatureOf kind .sort ≡ none → kindIs file kind at ≡ true → P at → P (at + 1)
 
 abbrev PastExpression : List ℕ → ℕ → (ℕ → Type 0) → Type 0
 PastExpression file vars P = (want at end : ℕ) → (want ≡ none → ⊥) → walkOf file vars 16 want at ≡ End end → P at → P end
 
 module _ (file : List ℕ) (vars : ℕ) (P : ℕ → Type 0) (head : PastHead file P) (expression : PastExpression file vars P) where
   -- a record of a section and the expression that follows it
-  item-through : (kind want at end : ℕ) → signatureOf (formOf kind) .sort ≡ none → (want ≡ none → ⊥) → kindIs file kind at ≡ true
+  item-through : (kind want at end : ℕ) → signatureOf kind .sort ≡ none → (want ≡ none → ⊥) → kindIs file kind at ≡ true
       → walkOf file vars 16 want (at + 1) ≡ End end → P at → P end
   item-through kind want at end u some k w p = expression want (at + 1) end some w (head kind at u k p)
 

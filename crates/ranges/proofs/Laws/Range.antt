@@ -16,9 +16,10 @@ use lib.Signed.{_≤ℤ_, ≤ℤ-refl}
 use Rattle.truths.proofs.Laws.Table.{length-table, table-at, table-beyond}
 use Rattle.integers.proofs.Laws.Parts.{by-test, ≤ℤ-antisym}
 use Rattle.records.specs.Record.{value, valueB, valueC}
-use Rattle.states.specs.State.{Ranges, Idle}
+use Rattle.states.specs.Ranges.{Ranges, Idle}
 use Rattle.states.proofs.Laws.State.{at-ranges, within-at, at-idle}
-use Rattle.ranges.specs.Range.{endsOf, lowsOf, highsOf, State}
+use Rattle.ranges.specs.Range.{endsOf, lowsOf, highsOf}
+use Rattle.ranges.specs.State.{State}
 
 module _ (file : List ℕ) (vars field : ℕ) where
   abbrev end : ℕ → ℤ

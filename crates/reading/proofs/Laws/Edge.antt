@@ -15,13 +15,15 @@ use lib.Dec.{ltb, leb, eqb}
 use Rattle.shapes.specs.declared.Property.{Property}
 use Rattle.shapes.specs.declared.Edge.{Edge}
 use Rattle.shapes.specs.declared.Outline.{Outline}
-use Rattle.sections.specs.Section.{edgeAt}
+use Rattle.shapes.specs.Edge.{doubleFrom}
+use Rattle.shapes.proofs.Laws.Edge.{double-from}
+use Rattle.sections.specs.Section.{propertyAt, edgeAt}
 use Rattle.parsing.proofs.Laws.Parsed as parsed
 use Rattle.truths.specs.Search.{any}
 use Rattle.records.proofs.Laws.Refuse.{refuse-all}
 use Rattle.truths.proofs.Laws.Any.{any-false, any-some}
 use Rattle.truths.proofs.Laws.Truth.{or-other}
-use Rattle.reading.specs.Edge.{property, justOf, conflictOf, leadsOf, fallsOf, doubleRuleOf, ruleOf, rulesOf, doubleFrom, doubledOf, doublesOf}
+use Rattle.reading.specs.Edge.{justOf, conflictOf, leadsOf, fallsOf, doubleRuleOf, ruleOf, rulesOf, doubledOf, doublesOf}
 use Rattle.reading.specs.Readable.{edgeOf, EdgeNamed, DoubleTransition}
 use Rattle.reading.proofs.Laws.Stage.{Stages}
 
@@ -66,42 +68,43 @@ module _ (file : List ℕ) (o : Outline) (r : Stages file o) where
 
   -- ---- the rule that it obeys
   edge-obeys : (e : ℕ) → e < o .edges
-      → (leadsOf (property file o) (edgeOf file o e) ≡ true)
-      × (cond (property file o .doubles) (doubleRuleOf file o (o .edge + e)) (not (edgeOf file o e .double)) ≡ true)
+      → (leadsOf (propertyAt file (o .property)) (edgeOf file o e) ≡ true)
+      × (cond (propertyAt file (o .property) .doubles) (doubleRuleOf file o (o .edge + e)) (not (edgeOf file o e .double)) ≡ true)
   unfolding rulesOf ruleOf
   edge-obeys e l =
-      and-eq-true-iff (leadsOf (property file o) (edgeOf file o e))
-      (cond (property file o .doubles) (doubleRuleOf file o (o .edge + e)) (not (edgeOf file o e .double))) .0
+      and-eq-true-iff (leadsOf (propertyAt file (o .property)) (edgeOf file o e))
+      (cond (propertyAt file (o .property) .doubles) (doubleRuleOf file o (o .edge + e)) (not (edgeOf file o e .double))) .0
       (refuse-all 9 (ruleOf file o) (r .rules .end) (o .edges) (o .edge) (r .rules .is) e l)
 
   pub edge-leads : (e : ℕ) → e < o .edges
-      → (property file o .from ≤ edgeOf file o e .from) × (property file o .rising ≡ false → edgeOf file o e .to ≤ edgeOf file o e .from)
-  edge-leads e l = leads-parts (property file o) (edgeOf file o e) (edge-obeys e l .0)
+      → (propertyAt file (o .property) .from ≤ edgeOf file o e .from)
+      × (propertyAt file (o .property) .rising ≡ false → edgeOf file o e .to ≤ edgeOf file o e .from)
+  edge-leads e l = leads-parts (propertyAt file (o .property)) (edgeOf file o e) (edge-obeys e l .0)
 
-  pub edge-single : property file o .doubles ≡ false → (e : ℕ) → e < o .edges → edgeOf file o e .double ≡ false
+  pub edge-single : propertyAt file (o .property) .doubles ≡ false → (e : ℕ) → e < o .edges → edgeOf file o e .double ≡ false
   edge-single n e l = not-true _ (rw n at (edge-obeys e l .1))
 
-  module _ (may : property file o .doubles ≡ true) where
+  module _ (may : propertyAt file (o .property) .doubles ≡ true) where
     double-ruled : (e : ℕ) → e < o .edges → doubleRuleOf file o (o .edge + e) ≡ true
     double-ruled e l = rw may at (edge-obeys e l .1)
 
     double-rule : (e : ℕ) → e < o .edges
         → (any (λ i. conflictOf (edgeAt file i) (edgeOf file o e)) (o .edge + e - o .edge) (o .edge) ≡ false)
-        × ((not (edgeOf file o e .double) || (fallsOf (property file o) (edgeOf file o e) && justOf file o (edgeOf file o e .transition))) ≡ true)
+        × ((not (edgeOf file o e .double) || (fallsOf (propertyAt file (o .property)) (edgeOf file o e) && justOf file o (edgeOf file o e .transition))) ≡ true)
     unfolding doubleRuleOf
     double-rule e l =
         let x = edgeOf file o e in
         let q = and-eq-true-iff (not (any (λ i. conflictOf (edgeAt file i) x) (o .edge + e - o .edge) (o .edge)))
-        (not (x .double) || (fallsOf (property file o) x && justOf file o (x .transition))) .0 (double-ruled e l) in
+        (not (x .double) || (fallsOf (propertyAt file (o .property)) x && justOf file o (x .transition))) .0 (double-ruled e l) in
         (not-true _ (q .0), q .1)
 
     -- "double strictly down, on just transitions"
     double-obeys : (e : ℕ) → e < o .edges → edgeOf file o e .double ≡ true
-        → (fallsOf (property file o) (edgeOf file o e) ≡ true) × (justOf file o (edgeOf file o e .transition) ≡ true)
+        → (fallsOf (propertyAt file (o .property)) (edgeOf file o e) ≡ true) × (justOf file o (edgeOf file o e .transition) ≡ true)
     double-obeys e l d =
         let x = edgeOf file o e in
-        let both = fallsOf (property file o) x && justOf file o (x .transition) in
-        and-eq-true-iff (fallsOf (property file o) x) (justOf file o (x .transition)) .0
+        let both = fallsOf (propertyAt file (o .property)) x && justOf file o (x .transition) in
+        and-eq-true-iff (fallsOf (propertyAt file (o .property)) x) (justOf file o (x .transition)) .0
         (or-other (not (x .double)) both (double-rule e l .1) (rw d))
 
     agree-later : (i j : ℕ) → i < j → j < o .edges → edgeOf file o i .from ≡ edgeOf file o j .from → Agree (edgeOf file o i) (edgeOf file o j)
@@ -120,42 +123,41 @@ module _ (file : List ℕ) (o : Outline) (r : Stages file o) where
             let z : i ≡ j = let x = ltb-false i j is in let y = ltb-false j i it in omega arith in
             (λ a. rw z, λ d e. rw z)
 
-    node-doubled : (n : ℕ) → property file o .from ≤ n → n < o .nodes → doubledOf file o n ≡ true
+    node-doubled : (n : ℕ) → propertyAt file (o .property) .from ≤ n → n < o .nodes → doubledOf file o n ≡ true
     unfolding doublesOf
     node-doubled n k l =
-        let from = property file o .from in
+        let from = propertyAt file (o .property) .from in
         let z : from + (n - from) ≡ n = omega arith in
         rw z at (refuse-all 10 (doubledOf file o) (r .doubles .end) (o .nodes - from) from (rw may at (r .doubles .is)) (n - from) (omega arith))
 
     -- "one double transition per node, never also single there; each node from 1 up has a double edge"
-    pub double-transition : (n : ℕ) → property file o .from ≤ n → n < o .nodes → DoubleTransition file o n
-    unfolding doubledOf doubleFrom
+    pub double-transition : (n : ℕ) → propertyAt file (o .property) .from ≤ n → n < o .nodes → DoubleTransition file o n
+    unfolding doubledOf
     double-transition n k l =
         let s = any-some (λ i. doubleFrom n (edgeAt file i)) (o .edges) (o .edge) (node-doubled n k l) in
         let x = edgeOf file o (s .which) in
-        let p = and-eq-true-iff (x .double) (eqb (x .from) n) .0 (s .passes) in
-        let b : x .from ≡ n = eqb-true _ _ (p .1) in
+        let p = double-from x (s .passes) in
         record {
           transition = x .transition;
           there = edge-names (s .which) (s .below) .transition;
           just = double-obeys (s .which) (s .below) (p .0) .1;
           edge = s .which;
           edge-there = s .below;
-          edge-from = b;
+          edge-from = p .1;
           edge-double = p .0;
           edge-carries = refl;
-          only = λ e m f g. agree e (s .which) m (s .below) (f ∙ sym b) .1 g (p .0);
-          never-single = λ e m f g. agree e (s .which) m (s .below) (f ∙ sym b) .0 g ∙ p .0;
+          only = λ e m f g. agree e (s .which) m (s .below) (f ∙ sym (p .1)) .1 g (p .0);
+          never-single = λ e m f g. agree e (s .which) m (s .below) (f ∙ sym (p .1)) .0 g ∙ p .0;
         }
 
   -- a double edge
   pub edge-double : (e : ℕ) → e < o .edges → edgeOf file o e .double ≡ true
-      → (property file o .doubles ≡ true) × (property file o .rising ≡ false → edgeOf file o e .to < edgeOf file o e .from)
+      → (propertyAt file (o .property) .doubles ≡ true) × (propertyAt file (o .property) .rising ≡ false → edgeOf file o e .to < edgeOf file o e .from)
       × (justOf file o (edgeOf file o e .transition) ≡ true)
-  edge-double e l d = by (property file o .doubles) refl
+  edge-double e l d = by (propertyAt file (o .property) .doubles) refl
     where
-      by : (b : Bool) → property file o .doubles ≡ b
-          → (property file o .doubles ≡ true) × (property file o .rising ≡ false → edgeOf file o e .to < edgeOf file o e .from)
+      by : (b : Bool) → propertyAt file (o .property) .doubles ≡ b
+          → (propertyAt file (o .property) .doubles ≡ true) × (propertyAt file (o .property) .rising ≡ false → edgeOf file o e .to < edgeOf file o e .from)
           × (justOf file o (edgeOf file o e .transition) ≡ true)
-      by true is = let p = double-obeys is e l d in (is, falls-down (property file o) (edgeOf file o e) (p .0), p .1)
+      by true is = let p = double-obeys is e l d in (is, falls-down (propertyAt file (o .property)) (edgeOf file o e) (p .0), p .1)
       by false is = absurd (false≢true (sym (edge-single is e l) ∙ d))

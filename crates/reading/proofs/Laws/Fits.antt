@@ -9,8 +9,7 @@ use Rattle.records.proofs.Laws.Walk.{walk-bound}
 use Rattle.records.proofs.Laws.Record.{kind-is}
 use Rattle.parsing.proofs.Laws.Outline.{Parses}
 use Rattle.parsing.proofs.Laws.Parsed.{variables-most, variable-range, transitions-most, nodes-most, edges-end, edge-names}
-use Rattle.reading.specs.States.{VariablesFit}
-use Rattle.reading.specs.Edge.{OutlineFits}
+use Rattle.reading.specs.Fits.{VariablesFit, OutlineFits}
 
 module _ (file : List ℕ) (o : Outline) (p : Parses file o) where
   pub ranges : VariablesFit file (o .vars)

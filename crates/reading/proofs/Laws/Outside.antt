@@ -15,7 +15,7 @@ use Rattle.records.specs.declared.walk.Walked.{Walked}
 use Rattle.records.specs.declared.walk.Walked.the-variants.{End}
 use Rattle.shapes.specs.declared.Outline.{Outline}
 use Rattle.records.specs.Record.{kindAt, kindIs}
-use Rattle.records.specs.Kind.{none, formOf, signatureOf, formAt, signatureAt}
+use Rattle.records.specs.Kind.{none, signatureOf, signatureAt}
 use Rattle.records.specs.Walk.{operandsOf, walkOf}
 use Rattle.records.proofs.Laws.Walk.{walk-opens, walk-deepest, operands-one, operands-two}
 use Rattle.parsing.proofs.Laws.Through.{at-end}
@@ -40,14 +40,14 @@ module _ (file : List ℕ) (place : ℕ) where
     walk = walkOf file vars levels
 
     from-out : operandsOf walk a b (signatureAt file at .operands) (at + 1) ≡ End end → OutFrom file levels at place → Outside file place
-    from-out w (OutFrom.leaf n e b) = outside at (leafOf file at (formAt file at)) e (Own.leaf n) b
+    from-out w (OutFrom.leaf n e b) = outside at (leafOf file at) e (Own.leaf n) b
     from-out w (OutFrom.one n q) = operand-out a (at + 1) end (operands-one walk a b (at + 1) end (rw n at w)) q
     from-out w (OutFrom.left n q) = let f = operands-two walk a b (at + 1) end (rw n at w) in operand-out a (at + 1) (f .mid) (f .first) q
     from-out w (OutFrom.right {mid} {j} n l q) =
         let f = operands-two walk a b (at + 1) end (rw n at w) in
         let z = analysis-walk file vars levels a (at + 1) (f .mid) j mid (f .first) l in
         operand-out b mid end (rw z (f .rest)) q
-    from-out w (OutFrom.join {j = j} {k} n e l r b) = outside at (joinOf (kindAt file at) (formAt file at) j k) e (Own.join levels n l r) b
+    from-out w (OutFrom.join {j = j} {k} n e l r b) = outside at (joinOf (kindAt file at) j k) e (Own.join levels n l r) b
 
   pub analysis-out : (vars levels want : ℕ) → RefusedOutside vars levels want
   analysis-out vars zero want at end w q = absurd (walk-deepest file vars want at end w)
@@ -72,7 +72,7 @@ module _ (file : List ℕ) (place : ℕ) where
     expression-ahead (inl o) = inl o
     expression-ahead (inr s) = tried-ahead (scan-expression file (Walked.Refused 8 place) vars want at end some w s)
 
-  head-ahead : (kind at : ℕ) → signatureOf (formOf kind) .sort ≡ none → kindIs file kind at ≡ true → Ahead at → Ahead (at + 1)
+  head-ahead : (kind at : ℕ) → signatureOf kind .sort ≡ none → kindIs file kind at ≡ true → Ahead at → Ahead (at + 1)
   head-ahead kind at u k (inl o) = inl o
   head-ahead kind at u k (inr s) = inr (scan-head file (Walked.Refused 8 place) kind at u k s)
 

@@ -20,17 +20,18 @@ use lib.Signed.{_≤ℤ_}
 use Rattle.records.specs.declared.walk.Walked.{Walked}
 use Rattle.shapes.specs.declared.Outline.{Outline}
 use Rattle.records.specs.Record.{fieldA, fieldB, valueB, valueC}
-use Rattle.sections.specs.Section.{propertyFields, expressionsOf, transitionOf, nodeOf}
+use Rattle.sections.specs.Section.{propertyAt, propertyFields, expressionsOf, transitionOf, nodeOf}
 use Rattle.records.specs.Place.{placeOf, placesOf}
 use Rattle.records.proofs.Laws.Place.{places-nth}
 use Rattle.sections.proofs.Laws.Property.{property-known as known, phases-counted}
 use Rattle.parsing.proofs.Laws.Outline.{Parses}
 use Rattle.parsing.proofs.Laws.Parsed as parsed
-use Rattle.reading.specs.declared.Reading.{Reading}
+use Rattle.shapes.specs.declared.Reading.{Reading}
 use Rattle.ranges.specs.Range.{lowsOf, highsOf}
 use Rattle.states.specs.Number.{countOf}
 use Rattle.reading.specs.States.{statesOf}
-use Rattle.reading.specs.Edge.{property, transitionAt, justOf, OutlineFits}
+use Rattle.reading.specs.Edge.{transitionAt, justOf}
+use Rattle.reading.specs.Fits.{OutlineFits}
 use Rattle.reading.specs.Read.{readOf}
 use Rattle.reading.specs.Readable.{Start, Transition, PropertyExpression, Node, edgeOf, EdgeNamed, DoubleTransition}
 use Rattle.reading.proofs.Laws.Fits as fitting
@@ -67,7 +68,7 @@ module _ (file : List ℕ) (o : Outline) (r : readOf file ≡ Reading.Found o) w
   nodes-within = (parsed.nodes-least file o parses, parsed.nodes-most file o parses)
 
   -- "for wait-for exactly b"
-  pub phases : property file o .phased ≡ true → o .nodes ≡ fieldB file (o .property)
+  pub phases : propertyAt file (o .property) .phased ≡ true → o .nodes ≡ fieldB file (o .property)
   phases w =
       let b = fieldB file (o .property) in
       let least : b ≤ o .nodes = rw (phases-counted file (o .property) 1 w) at (parses .enough) in
@@ -81,7 +82,7 @@ module _ (file : List ℕ) (o : Outline) (r : readOf file ≡ Reading.Found o) w
   pub property-right : propertyFields file (o .property) ≡ true
   property-right = parses .property-right
 
-  pub property-known : property file o .known ≡ true
+  pub property-known : propertyAt file (o .property) .known ≡ true
   property-known = known file (o .property) property-right
 
   -- ---- ranges and states
@@ -121,10 +122,11 @@ module _ (file : List ℕ) (o : Outline) (r : readOf file ≡ Reading.Found o) w
       let m = transitions-within in
       places-nth (transitionOf file (o .vars)) (o .transitions) (o .transition) t (omega arith) l ∙ ap placeOf (transition t l .reached)
 
-  pub node-place : (n : ℕ) (l : n < o .nodes) → getD (placesOf (nodeOf file (o .vars) (property file o .ranks)) (o .nodes) (o .node)) n 0 ≡ node n l .place
+  pub node-place : (n : ℕ) (l : n < o .nodes)
+      → getD (placesOf (nodeOf file (o .vars) (propertyAt file (o .property) .ranks)) (o .nodes) (o .node)) n 0 ≡ node n l .place
   node-place n l =
       let m = nodes-within .1 in
-      places-nth (nodeOf file (o .vars) (property file o .ranks)) (o .nodes) (o .node) n (omega arith) l ∙ ap placeOf (node n l .reached)
+      places-nth (nodeOf file (o .vars) (propertyAt file (o .property) .ranks)) (o .nodes) (o .node) n (omega arith) l ∙ ap placeOf (node n l .reached)
 
   -- ---- edges
   pub edge : (e : ℕ) → e < o .edges → EdgeNamed file o e
@@ -136,15 +138,17 @@ module _ (file : List ℕ) (o : Outline) (r : readOf file ≡ Reading.Found o) w
   edge-new = parsed.edge-new file o parses
 
   pub edge-leads : (e : ℕ) → e < o .edges
-      → (property file o .from ≤ edgeOf file o e .from) × (property file o .rising ≡ false → edgeOf file o e .to ≤ edgeOf file o e .from)
+      → (propertyAt file (o .property) .from ≤ edgeOf file o e .from)
+      × (propertyAt file (o .property) .rising ≡ false → edgeOf file o e .to ≤ edgeOf file o e .from)
   edge-leads = edges.edge-leads file o stages
 
   pub edge-double : (e : ℕ) → e < o .edges → edgeOf file o e .double ≡ true
-      → (property file o .doubles ≡ true) × (property file o .rising ≡ false → edgeOf file o e .to < edgeOf file o e .from)
+      → (propertyAt file (o .property) .doubles ≡ true) × (propertyAt file (o .property) .rising ≡ false → edgeOf file o e .to < edgeOf file o e .from)
       × (justOf file o (edgeOf file o e .transition) ≡ true)
   edge-double = edges.edge-double file o stages
 
-  pub double-transition : property file o .doubles ≡ true → (n : ℕ) → property file o .from ≤ n → n < o .nodes → DoubleTransition file o n
+  pub double-transition : propertyAt file (o .property) .doubles ≡ true
+      → (n : ℕ) → propertyAt file (o .property) .from ≤ n → n < o .nodes → DoubleTransition file o n
   double-transition = edges.double-transition file o stages
 
   -- whether a transition is just, by its record

@@ -10,19 +10,19 @@ use native.Mathlib.Omega.{arith}
 use lib.Dec.{leb}
 use Rattle.records.specs.declared.walk.Walked.{Walked}
 use Rattle.shapes.specs.declared.Outline.{Outline}
-use Rattle.parsing.specs.declared.Parsed.{Parsed}
 use Rattle.parsing.specs.Outline.{parsedOf}
 use Rattle.parsing.specs.Refusal.{Refuses}
-use Rattle.parsing.proofs.Laws.Refusal.{Refusing, walked, refused, by-test, handed-on, walked-ends, parse-refuses}
+use Rattle.parsing.proofs.Laws.Refusal.{walked, reading, refused, by-test, handed-on, walk-then, walked-ends, parse-refuses}
 use Rattle.parsing.proofs.Laws.Outline.{Parses, parses}
-use Rattle.reading.specs.declared.Reading.{Reading}
+use Rattle.shapes.specs.declared.Reading.{Reading}
+use Rattle.shapes.specs.Reading.{andFound}
 use Rattle.records.specs.Walk.{refuseFirst}
 use Rattle.reading.specs.States.{sizeAt, statesOf}
 use Rattle.intervals.specs.Interval.{intervalsOf}
 use Rattle.shapes.proofs.Laws.Property.{from-most}
-use Rattle.sections.specs.Section.{claimAt}
-use Rattle.reading.specs.Edge.{property, ruleOf, rulesOf, doubledOf, doublesOf}
-use Rattle.reading.specs.Read.{andStage, stagesRead, parsedRead, readOf}
+use Rattle.sections.specs.Section.{claimAt, propertyAt}
+use Rattle.reading.specs.Edge.{ruleOf, rulesOf, doubledOf, doublesOf}
+use Rattle.reading.specs.Read.{stagesRead, readOf}
 use Rattle.records.proofs.Laws.Refuse.{refused-first}
 use Rattle.intervals.proofs.Laws.Outside.{refused-intervals}
 use Rattle.reading.proofs.Laws.Fits.{fits}
@@ -43,13 +43,6 @@ module _ {most : ℕ} where
 abbrev Right : Reading → Type 0
 Right = Refuses Reading.Refused 4096
 
-reading : Refusing Reading.Refused
-reading = record { same = λ n p m q e. (cc, cc) }
-
-stage-then : (w : Walked) {next : Reading} → Refuses Walked.Refused 4096 w → Right next → Right (andStage w next)
-stage-then (Walked.End end) h k = k
-stage-then (Walked.Refused n p) h k = handed-on reading refl h
-
 module _ (file : List ℕ) (o : Outline) (p : Parses file o) where
   intervals-refuse : Refuses Walked.Refused 4096 (intervalsOf file)
   intervals-refuse n place e =
@@ -61,7 +54,7 @@ module _ (file : List ℕ) (o : Outline) (p : Parses file o) where
   unfolding doublesOf
   doubles-refuse =
       let nodes = fits file o p .nodes-most in
-      let p = property file o in
+      let p = propertyAt file (o .property) in
       let few = from-most (claimAt file (o .property)) in
       by-test (p .doubles) (λ c. row-refuses 10 (omega arith) (doubledOf file o) (o .nodes - p .from) (p .from) (omega arith)) (λ c. walked-ends)
 
@@ -72,15 +65,16 @@ module _ (file : List ℕ) (o : Outline) (p : Parses file o) where
       let f = fits file o p in
       let here = f .edges-here in
       let vars = f .vars-most in
-      stage-then (statesOf file (o .vars) 0 1) (states-refuses file (o .vars) 0 1 (omega arith))
-      (stage-then (intervalsOf file) intervals-refuse
-      (stage-then (rulesOf file o) (row-refuses 9 (omega arith) (ruleOf file o) (o .edges) (o .edge) (omega arith))
-      (stage-then (doublesOf file o) doubles-refuse (λ number place e. let z : _≡_ {A = ℕ} 0 1 = cc in absurd (omega arith)))))
+      walk-then (statesOf file (o .vars) 0 1) (states-refuses file (o .vars) 0 1 (omega arith)) λ x e.
+      walk-then (intervalsOf file) intervals-refuse λ x e.
+      walk-then (rulesOf file o) (row-refuses 9 (omega arith) (ruleOf file o) (o .edges) (o .edge) (omega arith)) λ x e.
+      walk-then (doublesOf file o) doubles-refuse λ x e.
+      λ number place e. let z : _≡_ {A = ℕ} 0 1 = cc in absurd (omega arith)
 
 pub read-refuses : (file : List ℕ) → Refuses Reading.Refused 4096 (readOf file)
-unfolding readOf parsedRead
+unfolding readOf
 read-refuses file = parsed-refuses (parsedOf file) refl
   where
-    parsed-refuses : (x : Parsed) → parsedOf file ≡ x → Right (parsedRead file x)
-    parsed-refuses (Parsed.Whole o) is = stages-refuse file o (parses file o is)
-    parsed-refuses (Parsed.Refused n p) is = handed-on reading is (parse-refuses file)
+    parsed-refuses : (x : Reading) → parsedOf file ≡ x → Right (andFound Reading.Refused x (stagesRead file))
+    parsed-refuses (Reading.Found o) is = stages-refuse file o (parses file o is)
+    parsed-refuses (Reading.Refused n p) is = handed-on reading is (parse-refuses file)

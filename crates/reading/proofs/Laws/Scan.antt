@@ -13,16 +13,15 @@ use Rattle.integers.specs.declared.Interval.{Interval}
 use Rattle.records.specs.declared.walk.Walked.{Walked}
 use Rattle.shapes.specs.declared.Outline.{Outline}
 use Rattle.records.specs.Record.{fieldA, kindIs}
-use Rattle.records.specs.Kind.{none, number, truth, within, formOf, signatureOf}
+use Rattle.records.specs.Kind.{none, number, truth, within, signatureOf}
 use Rattle.records.specs.Walk.{walkOf, truthOf}
-use Rattle.sections.specs.Section.{assignmentFields, transitionOf, expressionsOf, phasesOr}
+use Rattle.sections.specs.Section.{propertyAt, assignmentFields, transitionOf, expressionsOf, phasesOr}
 use Rattle.records.proofs.Laws.Kind.{head-none}
 use Rattle.sections.proofs.Laws.Section.{sequence-reach, transition-just, assignment-named, assignments-induct, transition-opens, node-opens}
 use Rattle.sections.proofs.Laws.Counted.{transitions-reach, nodes-reach}
 use Rattle.parsing.proofs.Laws.Parsed.{variables-most}
 use Rattle.parsing.proofs.Laws.Through as through
 use Rattle.intervals.specs.Expression.{Expression}
-use Rattle.reading.specs.Edge.{property}
 use Rattle.reading.specs.Readable.{Start, Apart, Assignments, Transition, PropertyExpression, Node}
 use Rattle.intervals.proofs.Laws.Scan.{Scan, Tried, scan-begins, scan-head, scan-expression}
 use Rattle.reading.proofs.Laws.Stage.{Stages}
@@ -111,14 +110,14 @@ module _ (file : List ℕ) (o : Outline) (r : Stages file o) where
   onward-first : Onward 0
   onward-first = scan-begins file (Walked.End last) (r .intervals .is)
 
-  onward-head : (kind at : ℕ) → signatureOf (formOf kind) .sort ≡ none → kindIs file kind at ≡ true → Onward at → Onward (at + 1)
+  onward-head : (kind at : ℕ) → signatureOf kind .sort ≡ none → kindIs file kind at ≡ true → Onward at → Onward (at + 1)
   onward-head = scan-head file (Walked.End last)
 
   onward-expression : (want at end : ℕ) → (want ≡ none → ⊥) → walkOf file (o .vars) 16 want at ≡ Walked.End end → Onward at → Onward end
   onward-expression want at end some w s = passing file last (o .vars) want at end some w s .rest
 
   -- a truth behind a record that begins an item
-  item-passing : (kind at end : ℕ) → signatureOf (formOf kind) .sort ≡ none → kindIs file kind at ≡ true
+  item-passing : (kind at end : ℕ) → signatureOf kind .sort ≡ none → kindIs file kind at ≡ true
       → walkOf file (o .vars) 16 truth (at + 1) ≡ Walked.End end → Onward at → Passing file last (o .vars) truth (at + 1) end
   item-passing kind at end u k w s = passing file last (o .vars) truth (at + 1) end (λ z. omega arith) w (onward-head kind at u k s)
 
@@ -158,7 +157,7 @@ module _ (file : List ℕ) (o : Outline) (r : Stages file o) where
   pub node-scanned : (n : ℕ) → n < o .nodes → Node file o n
   node-scanned n l =
       let s = through.at-nodes file o (r .parsed) Onward onward-head onward-expression onward-first in
-      let ranks = property file o .ranks in
+      let ranks = propertyAt file (o .property) .ranks in
       let h = nodes-reach file (o .vars) ranks (phasesOr file (o .property) 32) (o .node) (o .nodes) (o .edge) (r .parsed .nodes) Onward
       (λ i x k e s. through.node-through file (o .vars) Onward onward-head onward-expression ranks x i k e s) s n l in
       let a = node-opens file (o .vars) ranks (h .place) (h .end) (h .ends) in

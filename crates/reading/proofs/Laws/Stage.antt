@@ -7,14 +7,15 @@ use Prim.Native.Nat.{ℕ}
 use native.Mathlib.Omega.{arith}
 use Rattle.records.specs.declared.walk.Walked.{Walked}
 use Rattle.shapes.specs.declared.Outline.{Outline}
-use Rattle.parsing.specs.declared.Parsed.{Parsed}
 use Rattle.parsing.specs.Outline.{parsedOf}
-use Rattle.parsing.proofs.Laws.Outline.{Parses, parses}
-use Rattle.reading.specs.declared.Reading.{Reading}
+use Rattle.records.proofs.Laws.Walk.{First}
+use Rattle.parsing.proofs.Laws.Outline.{Parses, parses, walk-opens, same}
+use Rattle.shapes.specs.declared.Reading.{Reading}
+use Rattle.shapes.specs.Reading.{andFound}
 use Rattle.reading.specs.States.{statesOf}
 use Rattle.intervals.specs.Interval.{intervalsOf}
 use Rattle.reading.specs.Edge.{rulesOf, doublesOf}
-use Rattle.reading.specs.Read.{andStage, stagesRead, parsedRead, readOf}
+use Rattle.reading.specs.Read.{stagesRead, readOf}
 
 -- a stage that refuses nothing
 pub record Ends (w : Walked) : Type 0 where
@@ -30,28 +31,23 @@ pub record Stages (file : List ℕ) (o : Outline) : Type 0 where
   pub doubles : Ends (doublesOf file o)
 
 module _ (file : List ℕ) (o : Outline) where
-  passed : (w : Walked) (next : Reading) → andStage w next ≡ Reading.Found o → Ends w × (next ≡ Reading.Found o)
-  passed (Walked.End end) next e = (record { end = end; is = refl }, e)
-  passed (Walked.Refused n p) next e = let z : _≡_ {A = ℕ} 0 1 = cc in absurd (omega arith)
+  -- where a stage goes on
+  ends : {w : Walked} {next : ℕ → Reading} → First w next (Reading.Found o) → Ends w
+  ends f = record { end = f .mid; is = f .first }
 
-  same : (p : Outline) → Reading.Found p ≡ Reading.Found o → p ≡ o
-  same p e = cc
-
-  stages : (p : Outline) → parsedOf file ≡ Parsed.Whole p → stagesRead file p ≡ Reading.Found o → Stages file o
+  stages : (p : Outline) → parsedOf file ≡ Reading.Found p → stagesRead file p ≡ Reading.Found o → Stages file o
   unfolding stagesRead
   stages p is e =
-      let doubles = andStage (doublesOf file p) (Reading.Found p) in
-      let rules = andStage (rulesOf file p) doubles in
-      let s = passed (statesOf file (p .vars) 0 1) (andStage (intervalsOf file) rules) e in
-      let i = passed (intervalsOf file) rules (s .1) in
-      let r = passed (rulesOf file p) doubles (i .1) in
-      let d = passed (doublesOf file p) (Reading.Found p) (r .1) in
-      subst (Stages file) (same p (d .1)) (record { parsed = parses file p is; states = s .0; intervals = i .0; rules = r .0; doubles = d .0 })
+      let s = walk-opens (statesOf file (p .vars) 0 1) e in
+      let i = walk-opens (intervalsOf file) (s .rest) in
+      let r = walk-opens (rulesOf file p) (i .rest) in
+      let d = walk-opens (doublesOf file p) (r .rest) in
+      subst (Stages file) (same o p (d .rest))
+      (record { parsed = parses file p is; states = ends s; intervals = ends i; rules = ends r; doubles = ends d })
 
-  from-parsed : (p : Parsed) → parsedOf file ≡ p → parsedRead file p ≡ Reading.Found o → Stages file o
-  unfolding parsedRead
-  from-parsed (Parsed.Whole p) is e = stages p is e
-  from-parsed (Parsed.Refused n q) is e = let z : _≡_ {A = ℕ} 0 1 = cc in absurd (omega arith)
+  from-parsed : (p : Reading) → parsedOf file ≡ p → andFound Reading.Refused p (stagesRead file) ≡ Reading.Found o → Stages file o
+  from-parsed (Reading.Found p) is e = stages p is e
+  from-parsed (Reading.Refused n q) is e = let z : _≡_ {A = ℕ} 0 1 = cc in absurd (omega arith)
 
   pub stages-of : readOf file ≡ Reading.Found o → Stages file o
   unfolding readOf

@@ -9,18 +9,16 @@ use borrow.Author.Tests.{eq-eqb, ne-eqb, not-true, not-false}
 use lib.ListN.{length, getD}
 use Rattle.records.specs.declared.walk.Walked.{Walked}
 use Rattle.shapes.specs.declared.Outline.{Outline}
-use Rattle.records.specs.Walk.{inSequence}
-use Rattle.sections.specs.Section.{transitionOf}
+use Rattle.records.specs.Walk.{inSequence, refuseFirst}
 use Rattle.records.specs.Place.{placeOf, placesOf}
 use Rattle.sections.proofs.Laws.Section.{transitions-bound}
 use Rattle.records.proofs.Laws.Place.{places-nth}
-use Rattle.records.specs.Walk.{refuseFirst}
 use Rattle.truths.specs.Search.{any}
-use Rattle.sections.specs.Section.{edgeAt}
+use Rattle.sections.specs.Section.{propertyAt, edgeAt, transitionOf}
 use Rattle.shapes.specs.declared.Property.{Property}
 use Rattle.shapes.specs.declared.Edge.{Edge}
-use Rattle.reading.specs.Edge.{property, transitionAt, justOf, conflictOf, leadsOf, fallsOf, doubleRuleOf, ruleOf, doubledOf, doublesOf}
-use Rattle.reading.specs.Edge.{OutlineFits, EdgeFits}
+use Rattle.reading.specs.Edge.{transitionAt, justOf, conflictOf, leadsOf, fallsOf, doubleRuleOf, ruleOf, doubledOf, doublesOf}
+use Rattle.reading.specs.Fits.{OutlineFits, EdgeFits}
 
 -- ---- where a transition stands
 module _ (file : List ℕ) (o : Outline) (t : ℕ) where
@@ -85,8 +83,8 @@ module _ (file : List ℕ) (o : Outline) (at : ℕ) {e : Edge} (is : e ≡ edgeA
     unfolding doubleRuleOf
     double-single d = rw (← is, ← k, c, d)
 
-    module _ (d : not (e .double) ≡ false) {f : Bool} {p : Property} (row : p ≡ property file o) (g : f ≡ fallsOf p e) where
-      falling : fallsOf (property file o) e ≡ f
+    module _ (d : not (e .double) ≡ false) {f : Bool} {p : Property} (row : p ≡ propertyAt file (o .property)) (g : f ≡ fallsOf p e) where
+      falling : fallsOf (propertyAt file (o .property)) e ≡ f
       falling = rw (← row, g) refl
 
       pub double-rises : not f ≡ true → doubleRuleOf file o at ≡ false
@@ -97,8 +95,8 @@ module _ (file : List ℕ) (o : Outline) (at : ℕ) {e : Edge} (is : e ≡ edgeA
       unfolding doubleRuleOf
       double-just u = rw (← is, ← k, c, d, falling, not-false f u)
 
-  module _ {p : Property} (row : p ≡ property file o) {l : Bool} (g : l ≡ leadsOf p e) where
-    leading : leadsOf (property file o) e ≡ l
+  module _ {p : Property} (row : p ≡ propertyAt file (o .property)) {l : Bool} (g : l ≡ leadsOf p e) where
+    leading : leadsOf (propertyAt file (o .property)) e ≡ l
     leading = rw (← row, g) refl
 
     pub rule-leaves : not l ≡ true → ruleOf file o at ≡ false
@@ -114,7 +112,7 @@ module _ (file : List ℕ) (o : Outline) (at : ℕ) {e : Edge} (is : e ≡ edgeA
       unfolding ruleOf
       rule-single d = rw (← is, leading, not-false l u, ← row, d)
 
-module _ (file : List ℕ) (o : Outline) {p : Property} (row : p ≡ property file o) where
+module _ (file : List ℕ) (o : Outline) {p : Property} (row : p ≡ propertyAt file (o .property)) where
   pub doubles-none : not (p .doubles) ≡ true → doublesOf file o ≡ Walked.End 0
   unfolding doublesOf
   doubles-none d = rw (← row, not-true (p .doubles) d)

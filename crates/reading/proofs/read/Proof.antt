@@ -2,7 +2,7 @@
 -- Assumes nothing.
 use mathlib.Core.Path.{sym, _∙_}
 use Rattle.parsing.proofs.Laws.Outline.{parses}
-use Rattle.reading.specs.Read.{parsedRead, readOf}
+use Rattle.reading.specs.Read.{readOf}
 use Rattle.reading.proofs.Laws.Fits.{fits}
 use borrow.Author.Needs.{needs}
 use Rattle.reading.proofs.read.Statement.{statement}
@@ -21,11 +21,11 @@ enum-known-found-2 : tie.Need-enum-known-found-2
 enum-known-found-2 c = search needs
 
 returns : tie.Need-returns
-unfolding readOf parsedRead
+unfolding readOf
 returns c = simp (sym (c .before .before .before .before .parse .ensures) ∙ c .before .before .found .given .1) (c .read-parsed .ensures)
 
 returns-2 : tie.Need-returns-2
-unfolding readOf parsedRead
+unfolding readOf
 returns-2 c = simp (sym (c .before .before .before .parse .ensures) ∙ c .before .found2 .given .1)
 
 pub read-spec : {M : Type 1} → statement M

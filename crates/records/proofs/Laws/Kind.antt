@@ -2,39 +2,57 @@
 --     constant-form, variable-form, arithmetic-form, indicator-form, literal-form, negation-form, connective-form, comparison-form
 --                                                 the form of a kind, by the range that it lies in
 --     unfit-below, unfit-between, unfit-above     a kind in none of the ranges is unfit
---     constant-row, variable-row, arithmetic-row, indicator-row, literal-row, negation-row, connective-row, comparison-row, unfit-row
---                                                 the signature of each form
+--     signature-form, signature-by                the signature of a kind is its form's
+--     leaf-signature                              constants and variables have one signature
 --     head-none                                   the kinds below 10, which begin the items of a file, begin no expression
---     operands-most                               no form has more than two operands
+--     operands-most                               no kind has more than two operands
 --     number-forms, truth-forms                   what is so of each form of a number, of a truth, is so of any
 --     form-range, number-range, truth-range       a kind lies in the range of its form; the kinds of the numbers and of the truths
 --     variable-named                              a variable's record names one of the file's
 -- Assumes nothing.
-use mathlib.Core.Path.{_≡_, refl}
+use mathlib.Core.Path.{_≡_, refl, sym, ap, _∙_}
 use mathlib.Core.Bool.{Bool, true, false, cond, _&&_, and-eq-true-iff, and-false}
 use mathlib.Core.List.{List}
-use Prim.Native.Nat.{ℕ, _*_, _+_, _<_, _≤_}
+use Prim.Native.Nat.{ℕ, suc, _*_, _+_, _<_, _≤_}
 use native.Mathlib.Omega.{arith}
-use borrow.Author.Tests.{ltb-true, leb-true, le-leb, lt-leb, eq-eqb, ne-eqb}
+use Rattle.integers.proofs.Laws.Parts.{by-test}
+use borrow.Author.Tests.{ltb-true, leb-true, leb-false, le-leb, lt-leb, eq-eqb, ne-eqb}
 use lib.Dec.{ltb, leb}
-use Rattle.records.specs.declared.kinds.Form.{Form}
-use Rattle.records.specs.declared.kinds.Form.the-variants.{Constant, Variable, Arithmetic, Indicator, Literal, Negation, Connective, Comparison, Unfit}
+use Rattle.records.specs.declared.kinds.Signature.{Signature}
+use Rattle.records.specs.Form.{Form}
+use Rattle.records.specs.Form.Form.{Constant, Variable, Arithmetic, Indicator, Literal, Negation, Connective, Comparison, Unfit}
 use Rattle.records.specs.Record.{kindAt, fieldA, zerosOf}
-use Rattle.records.specs.Kind.{within, formOf, none, number, truth, row, signatureOf, formAt}
+use Rattle.records.specs.Kind.{within, none, number, truth, row, signatureOf}
+use Rattle.records.specs.Form.{formOf, formAt, rowOf}
 use Rattle.records.specs.Walk.{expressionFields}
 
 -- ---- the form of a kind: past each range that it lies over or under, to the range that it lies in
-hits : {lo hi kind : ℕ} {hit : Form} (miss : Form) → lo ≤ kind → kind ≤ hi → within lo hi kind hit miss ≡ hit
-unfolding within
-hits {lo} {hi} {kind} miss p q = simp (le-leb lo kind p, le-leb kind hi q)
+module _ {A : Type 0} where
+  hits : {lo hi kind : ℕ} {hit : A} (miss : A) → lo ≤ kind → kind ≤ hi → within lo hi kind hit miss ≡ hit
+  unfolding within
+  hits {lo} {hi} {kind} miss p q = simp (le-leb lo kind p, le-leb kind hi q)
 
-over : (lo : ℕ) {hi kind : ℕ} (hit : Form) {miss form : Form} → hi < kind → miss ≡ form → within lo hi kind hit miss ≡ form
-unfolding within
-over lo {hi} {kind} hit p e = simp (lt-leb kind hi p, and-false) e
+  over : (lo : ℕ) {hi kind : ℕ} (hit : A) {miss form : A} → hi < kind → miss ≡ form → within lo hi kind hit miss ≡ form
+  unfolding within
+  over lo {hi} {kind} hit p e = simp (lt-leb kind hi p, and-false) e
 
-under : {lo : ℕ} (hi : ℕ) {kind : ℕ} (hit : Form) {miss form : Form} → kind < lo → miss ≡ form → within lo hi kind hit miss ≡ form
-unfolding within
-under {lo} hi {kind} hit p e = simp (lt-leb lo kind p) e
+  under : {lo : ℕ} (hi : ℕ) {kind : ℕ} (hit : A) {miss form : A} → kind < lo → miss ≡ form → within lo hi kind hit miss ≡ form
+  unfolding within
+  under {lo} hi {kind} hit p e = simp (lt-leb lo kind p) e
+
+  -- two ranges, one behind the other, that say the same are one
+  joined : (lo mid hi kind : ℕ) (hit miss : A) → lo ≤ mid → mid < hi
+      → within lo mid kind hit (within (suc mid) hi kind hit miss) ≡ within lo hi kind hit miss
+  joined lo mid hi kind hit miss l m =
+      by-test (leb kind mid) (λ _. within lo mid kind hit (within (suc mid) hi kind hit miss) ≡ within lo hi kind hit miss)
+      (λ b. by-test (leb lo kind) (λ _. within lo mid kind hit (within (suc mid) hi kind hit miss) ≡ within lo hi kind hit miss)
+      (λ a. let x = leb-true _ _ a in let y = leb-true _ _ b in hits _ x y ∙ sym (hits _ x (omega arith)))
+      (λ a. let x = leb-false _ _ a in under _ _ x (under _ _ (omega arith) refl) ∙ sym (under _ _ x refl)))
+      (λ b. let y = leb-false _ _ b in
+      over _ _ y
+      (by-test (leb kind hi) (λ _. within (suc mid) hi kind hit miss ≡ within lo hi kind hit miss)
+      (λ c. let z = leb-true _ _ c in hits _ (omega arith) z ∙ sym (hits _ (omega arith) z))
+      (λ c. let z = leb-false _ _ c in over _ _ z refl ∙ sym (over _ _ z refl))))
 
 -- the truths' ranges, which stand behind the numbers'
 abbrev truths : ℕ → Form
@@ -92,83 +110,84 @@ module _ {kind : ℕ} where
   unfit-above l =
       over-numbers (omega arith) (over _ _ (omega arith) (over _ _ (omega arith) (over _ _ (omega arith) (over _ _ l refl))))
 
--- ---- the signature of each form
-pub constant-row : signatureOf Constant ≡ row number 0 none none
-unfolding signatureOf
-constant-row = refl
+-- ---- the signature of a kind is its form's
+row-within : (lo hi kind : ℕ) (hit miss : Form) {s : Signature} → rowOf miss ≡ s
+    → rowOf (within lo hi kind hit miss) ≡ within lo hi kind (rowOf hit) s
+unfolding within
+row-within lo hi kind hit miss {s} e = by-kind (leb lo kind && leb kind hi)
+  where
+    by-kind : (b : Bool) → rowOf (cond b hit miss) ≡ cond b (rowOf hit) s
+    by-kind true = refl
+    by-kind false = e
 
-pub variable-row : signatureOf Variable ≡ row number 0 none none
-unfolding signatureOf
-variable-row = refl
+pub signature-form : (kind : ℕ) → signatureOf kind ≡ rowOf (formOf kind)
+unfolding signatureOf formOf
+signature-form kind =
+    sym
+    (row-within 0x10 0x10 kind Constant _
+    (row-within 0x11 0x11 kind Variable _
+    (row-within 0x12 0x14 kind Arithmetic _
+    (row-within 0x15 0x15 kind Indicator _
+    (row-within 0x20 0x21 kind Literal _
+    (row-within 0x22 0x22 kind Negation _
+    (row-within 0x23 0x26 kind Connective _
+    (row-within 0x27 0x29 kind Comparison _ refl)))))))
+    ∙ joined 0x10 0x10 0x11 kind _ _ (omega arith) (omega arith))
 
-pub arithmetic-row : signatureOf Arithmetic ≡ row number 2 number number
-unfolding signatureOf
-arithmetic-row = refl
+pub signature-by : (kind : ℕ) {f : Form} → formOf kind ≡ f → signatureOf kind ≡ rowOf f
+signature-by kind is = signature-form kind ∙ ap rowOf is
 
-pub indicator-row : signatureOf Indicator ≡ row number 1 truth none
+pub leaf-signature : {kind : ℕ} → 0x10 ≤ kind → kind ≤ 0x11 → signatureOf kind ≡ row number 0 none none
 unfolding signatureOf
-indicator-row = refl
-
-pub literal-row : signatureOf Literal ≡ row truth 0 none none
-unfolding signatureOf
-literal-row = refl
-
-pub negation-row : signatureOf Negation ≡ row truth 1 truth none
-unfolding signatureOf
-negation-row = refl
-
-pub connective-row : signatureOf Connective ≡ row truth 2 truth truth
-unfolding signatureOf
-connective-row = refl
-
-pub comparison-row : signatureOf Comparison ≡ row truth 2 number number
-unfolding signatureOf
-comparison-row = refl
-
-pub unfit-row : signatureOf Unfit ≡ row none 0 none none
-unfolding signatureOf
-unfit-row = refl
+leaf-signature l m = hits _ l m
 
 -- a record that begins an item of the file begins no expression
-pub head-none : {kind : ℕ} → kind < 0x10 → signatureOf (formOf kind) .sort ≡ none
-head-none l = rw (unfit-below l, unfit-row) refl
+pub head-none : {kind : ℕ} → kind < 0x10 → signatureOf kind .sort ≡ none
+head-none l = rw (signature-by _ (unfit-below l)) refl
 
-pub operands-most : (f : Form) → signatureOf f .operands ≤ 2
-unfolding signatureOf
-operands-most Constant = omega arith
-operands-most Variable = omega arith
-operands-most Arithmetic = omega arith
-operands-most Indicator = omega arith
-operands-most Literal = omega arith
-operands-most Negation = omega arith
-operands-most Connective = omega arith
-operands-most Comparison = omega arith
-operands-most Unfit = omega arith
+row-most : (f : Form) → rowOf f .operands ≤ 2
+row-most Constant = omega arith
+row-most Variable = omega arith
+row-most Arithmetic = omega arith
+row-most Indicator = omega arith
+row-most Literal = omega arith
+row-most Negation = omega arith
+row-most Connective = omega arith
+row-most Comparison = omega arith
+row-most Unfit = omega arith
+
+pub operands-most : (kind : ℕ) → signatureOf kind .operands ≤ 2
+operands-most kind = rw (signature-form kind) (row-most (formOf kind))
 
 module _ (P : Form → Type 0) where
-  pub number-forms : P Constant → P Variable → P Arithmetic → P Indicator → (f : Form) → signatureOf f .sort ≡ number → P f
-  unfolding signatureOf
-  number-forms c v a i Constant e = c
-  number-forms c v a i Variable e = v
-  number-forms c v a i Arithmetic e = a
-  number-forms c v a i Indicator e = i
-  number-forms c v a i Literal e = absurd (omega arith)
-  number-forms c v a i Negation e = absurd (omega arith)
-  number-forms c v a i Connective e = absurd (omega arith)
-  number-forms c v a i Comparison e = absurd (omega arith)
-  number-forms c v a i Unfit e = absurd (omega arith)
+  by-number : P Constant → P Variable → P Arithmetic → P Indicator → (f : Form) → rowOf f .sort ≡ number → P f
+  by-number c v a i Constant e = c
+  by-number c v a i Variable e = v
+  by-number c v a i Arithmetic e = a
+  by-number c v a i Indicator e = i
+  by-number c v a i Literal e = absurd (omega arith)
+  by-number c v a i Negation e = absurd (omega arith)
+  by-number c v a i Connective e = absurd (omega arith)
+  by-number c v a i Comparison e = absurd (omega arith)
+  by-number c v a i Unfit e = absurd (omega arith)
 
-  pub truth-forms : P Literal → P Negation → P Connective → P Comparison → (f : Form) → signatureOf f .sort ≡ truth → P f
-  unfolding signatureOf
-  truth-forms l n c m Literal e = l
-  truth-forms l n c m Negation e = n
-  truth-forms l n c m Connective e = c
-  truth-forms l n c m Comparison e = m
-  truth-forms l n c m Constant e = absurd (omega arith)
-  truth-forms l n c m Variable e = absurd (omega arith)
-  truth-forms l n c m Arithmetic e = absurd (omega arith)
-  truth-forms l n c m Indicator e = absurd (omega arith)
-  truth-forms l n c m Unfit e = absurd (omega arith)
+  by-truth : P Literal → P Negation → P Connective → P Comparison → (f : Form) → rowOf f .sort ≡ truth → P f
+  by-truth l n c m Literal e = l
+  by-truth l n c m Negation e = n
+  by-truth l n c m Connective e = c
+  by-truth l n c m Comparison e = m
+  by-truth l n c m Constant e = absurd (omega arith)
+  by-truth l n c m Variable e = absurd (omega arith)
+  by-truth l n c m Arithmetic e = absurd (omega arith)
+  by-truth l n c m Indicator e = absurd (omega arith)
+  by-truth l n c m Unfit e = absurd (omega arith)
+
+  module _ (kind : ℕ) where
+    pub number-forms : P Constant → P Variable → P Arithmetic → P Indicator → signatureOf kind .sort ≡ number → P (formOf kind)
+    number-forms c v a i s = by-number c v a i (formOf kind) (rw (signature-form kind) at s)
+
+    pub truth-forms : P Literal → P Negation → P Connective → P Comparison → signatureOf kind .sort ≡ truth → P (formOf kind)
+    truth-forms l n c m s = by-truth l n c m (formOf kind) (rw (signature-form kind) at s)
 
 -- ---- the kinds of a form
 within-by : (P : Form → Type 0) (lo hi kind : ℕ) {hit miss : Form} → (lo ≤ kind → kind ≤ hi → P hit) → P miss → P (within lo hi kind hit miss)
@@ -191,9 +210,9 @@ Range kind Comparison = (0x27 ≤ kind) × (kind ≤ 0x29)
 Range kind Unfit = Unit {0}
 
 module _ (kind : ℕ) where
-  pub form-range : Range kind (formOf kind)
+  in-range : Range kind (formOf kind)
   unfolding formOf
-  form-range =
+  in-range =
       within-by (Range kind) 0x10 0x10 kind (λ l m. omega arith)
       (within-by (Range kind) 0x11 0x11 kind (λ l m. omega arith)
       (within-by (Range kind) 0x12 0x14 kind (λ l m. (l, m))
@@ -204,20 +223,23 @@ module _ (kind : ℕ) where
       (within-by (Range kind) 0x27 0x29 kind (λ l m. (l, m))
       tt)))))))
 
-  pub number-range : signatureOf (formOf kind) .sort ≡ number → (0x10 ≤ kind) × (kind ≤ 0x15)
-  number-range s =
-      number-forms (λ f. Range kind f → (0x10 ≤ kind) × (kind ≤ 0x15)) (λ r. (omega arith, omega arith)) (λ r. (omega arith, omega arith))
-      (λ r. (omega arith, omega arith)) (λ r. (omega arith, omega arith)) (formOf kind) s form-range
+  pub form-range : {f : Form} → formOf kind ≡ f → Range kind f
+  form-range is = rw is at in-range
 
-  pub truth-range : signatureOf (formOf kind) .sort ≡ truth → (0x20 ≤ kind) × (kind ≤ 0x29)
+  pub number-range : signatureOf kind .sort ≡ number → (0x10 ≤ kind) × (kind ≤ 0x15)
+  number-range s =
+      number-forms (λ f. Range kind f → (0x10 ≤ kind) × (kind ≤ 0x15)) kind (λ r. (omega arith, omega arith)) (λ r. (omega arith, omega arith))
+      (λ r. (omega arith, omega arith)) (λ r. (omega arith, omega arith)) s in-range
+
+  pub truth-range : signatureOf kind .sort ≡ truth → (0x20 ≤ kind) × (kind ≤ 0x29)
   truth-range s =
-      truth-forms (λ f. Range kind f → (0x20 ≤ kind) × (kind ≤ 0x29)) (λ r. (omega arith, omega arith)) (λ r. (omega arith, omega arith))
-      (λ r. (omega arith, omega arith)) (λ r. (omega arith, omega arith)) (formOf kind) s form-range
+      truth-forms (λ f. Range kind f → (0x20 ≤ kind) × (kind ≤ 0x29)) kind (λ r. (omega arith, omega arith)) (λ r. (omega arith, omega arith))
+      (λ r. (omega arith, omega arith)) (λ r. (omega arith, omega arith)) s in-range
 
 -- a variable's record, in an expression that walks, names one of the file's variables
 pub variable-named : (file : List ℕ) (vars at : ℕ) → formAt file at ≡ Variable → expressionFields file vars at ≡ true → fieldA file at < vars
 unfolding expressionFields
 variable-named file vars at f e =
-    let k : kindAt file at ≡ 0x11 = rw f at (form-range (kindAt file at)) in
+    let k : kindAt file at ≡ 0x11 = form-range (kindAt file at) f in
     let n : kindAt file at ≡ 0x10 → ⊥ = λ z. omega arith in
     ltb-true _ _ (and-eq-true-iff (ltb (fieldA file at) vars) (zerosOf file (8 * at + 2) 6) .0 (simp (ne-eqb _ _ n, eq-eqb _ _ k) at e) .0)

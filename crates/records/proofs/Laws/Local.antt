@@ -17,7 +17,7 @@ use lib.Seq.{length-take-le, take-nil, take-take, drop-drop, getD-take, getD-dro
 use Rattle.records.specs.declared.walk.Walked.{Walked}
 use Rattle.records.specs.declared.walk.Walked.the-variants.{End}
 use Rattle.records.specs.Record.{value, kindAt, fieldA, valueB, valueC, zerosOf}
-use Rattle.records.specs.Kind.{formAt, signatureAt}
+use Rattle.records.specs.Kind.{signatureAt}
 use Rattle.records.specs.Walk.{expressionFields, inSequence, operandsOf, recordThen, walkOf, span}
 use Rattle.records.proofs.Laws.Kind.{operands-most}
 use Rattle.records.proofs.Laws.Walk.{walk-opens, walk-deepest, walk-bound, First, operands-none, operands-one, operands-two}
@@ -143,7 +143,7 @@ module _ (file file′ : List ℕ) (vars levels at at′ n : ℕ) (same : record
   one-by : (a : ℕ) → walk a (at + 1) ≡ End (at + n) → Copy file file′ vars levels a (at + 1) (at′ + 1) (n - 1)
   one-by a w = let l = ahead a (at + 1) (at + n) w in copied a 1 (n - 1) (at + 1) (at + n) refl (omega arith) (omega arith) w
 
-  two-by : (a b : ℕ) → First (walk a) (at + n) (walk b) (at + 1) → TwoCopies file file′ vars levels a b at at′ n
+  two-by : (a b : ℕ) → First (walk a (at + 1)) (walk b) (End (at + n)) → TwoCopies file file′ vars levels a b at at′ n
   two-by a b f =
       let y = f .mid in
       let l = ahead a (at + 1) y (f .first) in
@@ -203,7 +203,7 @@ module _ (file file′ : List ℕ) (vars : ℕ) where
       let o = copy-opens file file′ vars levels want at at′ n c in
       let k = kind-same file file′ at at′ (o .byte) in
       rw (record-closes file′ vars want at′ _ (o .there) (rw (← k) (o .sort)) (rw (← fields-same file file′ at at′ (o .byte) vars) (o .fields)), ← k)
-      (operands-walk levels want at at′ n o (walk-local levels) (signatureAt file at .operands) refl (operands-most (formAt file at)))
+      (operands-walk levels want at at′ n o (walk-local levels) (signatureAt file at .operands) refl (operands-most (kindAt file at)))
 
   pub span-local : (levels want at at′ n : ℕ) → Copy file file′ vars levels want at at′ n
       → span levels (drop (8 * at) file) ≡ span levels (drop (8 * at′) file′)

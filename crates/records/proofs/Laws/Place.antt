@@ -31,17 +31,17 @@ module _ (part : ℕ → Walked) (n first : ℕ) where
 -- ---- as it is filled
 module _ (part : ℕ → Walked) where
   -- the last of n + 1 parts follows the n before it
-  then-end : (w : Walked) → andThen w (λ x. End x) ≡ w
+  then-end : (w : Walked) → andThen Refused w (λ x. End x) ≡ w
   then-end (Walked.End x) = refl
   then-end (Walked.Refused number place) = refl
 
-  sequence-last : (n at : ℕ) → inSequence part (suc n) at ≡ andThen (inSequence part n at) part
+  sequence-last : (n at : ℕ) → inSequence part (suc n) at ≡ andThen Refused (inSequence part n at) part
   unfolding inSequence
   sequence-last zero at = then-end (part at)
   sequence-last (suc n) at = behind (sequence-last n) (part at)
     where
-      behind : ((x : ℕ) → inSequence part (suc n) x ≡ andThen (inSequence part n x) part) → (w : Walked)
-          → andThen w (inSequence part (suc n)) ≡ andThen (andThen w (inSequence part n)) part
+      behind : ((x : ℕ) → inSequence part (suc n) x ≡ andThen Refused (inSequence part n x) part) → (w : Walked)
+          → andThen Refused w (inSequence part (suc n)) ≡ andThen Refused (andThen Refused w (inSequence part n)) part
       behind h (Walked.End x) = h x
       behind h (Walked.Refused number place) = refl
 

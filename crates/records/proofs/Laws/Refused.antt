@@ -21,12 +21,12 @@ use Rattle.records.proofs.Laws.Walk.{walk-bound}
 module _ (part : ℕ → Walked) (most number place : ℕ) (Q : Type 0) (ends : (i e : ℕ) → part i ≡ End e → e ≤ most)
     (refused : (i : ℕ) → i ≤ most → part i ≡ Refused number place → Q) where
   refused-part : (others : ℕ → Walked) (at : ℕ) → at ≤ most → (w : Walked) → part at ≡ w → ((x : ℕ) → x ≤ most → others x ≡ Refused number place → Q)
-      → andThen w others ≡ Refused number place → Q
+      → andThen Refused w others ≡ Refused number place → Q
   refused-part others at l (Walked.End x) is later e = later x (ends at x is) e
   refused-part others at l (Walked.Refused m p) is later e = refused at l (is ∙ e)
 
   pub refused-then : (others : ℕ → Walked) (at : ℕ) → at ≤ most → ((x : ℕ) → x ≤ most → others x ≡ Refused number place → Q)
-      → andThen (part at) others ≡ Refused number place → Q
+      → andThen Refused (part at) others ≡ Refused number place → Q
   refused-then others at l later e = refused-part others at l (part at) refl later e
 
   pub refused-sequence : (n at : ℕ) → at ≤ most → inSequence part n at ≡ Refused number place → Q

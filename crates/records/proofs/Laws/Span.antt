@@ -11,11 +11,11 @@ use native.Mathlib.Nat.{add-zero}
 use native.Mathlib.Omega.{arith}
 use lib.ListN.{drop}
 use lib.Seq.{getD-drop, drop-drop}
-use Rattle.records.specs.declared.kinds.Form.{Form}
 use Rattle.records.specs.declared.walk.Walked.{Walked}
-use Rattle.records.specs.declared.walk.Walked.the-variants.{End}
+use Rattle.records.specs.declared.walk.Walked.the-variants.{End, Refused}
 use Rattle.records.specs.Record.{kindAt}
-use Rattle.records.specs.Kind.{formOf, formAt, signatureOf, signatureAt}
+use Rattle.records.specs.Kind.{signatureOf, signatureAt}
+use Rattle.records.specs.Form.{formOf, formAt}
 use Rattle.records.specs.Walk.{andThen, inSequence, operandsOf, walkOf, spans, span}
 use Rattle.records.proofs.Laws.Walk.{walk-opens, walk-deepest}
 
@@ -41,8 +41,8 @@ module _ (operand : List ℕ → ℕ) (k : ℕ) (part : List ℕ) where
   unfolding spans
   spans-two = refl
 
-pub span-opens : {levels below : ℕ} (e : levels ≡ suc below) (part : List ℕ) {f : Form} (is : formAt part 0 ≡ f)
-    → span levels part ≡ spans (span below) (signatureOf f .operands) 1 part
+pub span-opens : {levels below : ℕ} (e : levels ≡ suc below) (part : List ℕ) {kind : ℕ} (is : kindAt part 0 ≡ kind)
+    → span levels part ≡ spans (span below) (signatureOf kind .operands) 1 part
 unfolding span
 span-opens e part is = rw (e, is)
 
@@ -53,15 +53,15 @@ spans-least operand part (suc n) k = let z = spans-least operand part n (k + ope
 
 pub span-some : (levels : ℕ) (part : List ℕ) → 0 < span (suc levels) part
 span-some levels part =
-    let f = formAt part 0 in
-    omega (arith, span-opens {below = levels} refl part {f = f} refl, spans-least (span levels) part (signatureOf f .operands) 1)
+    omega (arith, span-opens {below = levels} refl part refl, spans-least (span levels) part (signatureAt part 0 .operands) 1)
 
 -- ---- and the walk
 module _ (file : List ℕ) (walk : ℕ → ℕ → Walked) (operand : List ℕ → ℕ)
     (h : (want at end : ℕ) → walk want at ≡ End end → end ≡ at + operand (drop (8 * at) file)) (b : ℕ) where
   after-spans : (a n at k end : ℕ) (w : Walked) → walk a (at + k) ≡ w
       → ((m : ℕ) → inSequence (walk b) n (at + m) ≡ End end → end ≡ at + spans operand n m (drop (8 * at) file))
-      → andThen w (inSequence (walk b) n) ≡ End end → end ≡ at + spans operand n (k + operand (drop (8 * k) (drop (8 * at) file))) (drop (8 * at) file)
+      → andThen Refused w (inSequence (walk b) n) ≡ End end
+      → end ≡ at + spans operand n (k + operand (drop (8 * k) (drop (8 * at) file))) (drop (8 * at) file)
   after-spans a n at k end (Walked.End i) is ih e =
       let d : 8 * at + 8 * k ≡ 8 * (at + k) = omega arith in
       let z : drop (8 * k) (drop (8 * at) file) ≡ drop (8 * (at + k)) file = drop-drop (8 * k) (8 * at) file ∙ rw d in
@@ -85,5 +85,5 @@ walk-span file vars zero want at end e = absurd (walk-deepest file vars want at 
 walk-span file vars (suc levels) want at end e =
     let o = walk-opens file vars levels want at end e in
     let s = signatureAt file at in
-    rw (span-opens {below = levels} refl (drop (8 * at) file) (form-part file at))
+    rw (span-opens {below = levels} refl (drop (8 * at) file) (kind-part file at))
     (operands-spans file (walkOf file vars levels) (span levels) (walk-span file vars levels) (s .second) (s .first) (s .operands) at 1 end (o .operands))

@@ -1,7 +1,7 @@
 -- Laws of the walk that the crates above cite.
 --     walk-opens     an expression that walks to an end: what its record is, and that its operands walk to that end
 --     walk-bound     the end lies behind the record and within the file
---     then-first                          a part and others behind it that end: where the part ends
+--     then-first, then-ends               a part, and what follows it: where the part ends, unless its refusal stands
 --     sequence-none, sequence-next        no part, and one behind a part that ends
 --     sequence-first, sequence-one        parts in sequence that end, from the first on
 --     sequence-induct, sequence-bound     by induction over them: they end within the file too
@@ -55,6 +55,22 @@ walk-deepest file vars want at end e =
     let z : _≡_ {A = ℕ} 0 1 = cc (record-opens file vars want at (Refused 5 at) end e .operands) in
     omega arith
 
+-- ---- a part, and what follows it, of any type of answers
+-- the part ends where what follows begins, and that answers
+pub record First {A : Type 0} (w : Walked) (next : ℕ → A) (answer : A) : Type 0 where
+  pub mid : ℕ
+  pub first : w ≡ End mid
+  pub rest : next mid ≡ answer
+
+pub then-first : {A : Type 0} {refused : ℕ → ℕ → A} {answer : A} → ((number place : ℕ) → refused number place ≡ answer → ⊥)
+    → (w : Walked) {next : ℕ → A} → andThen refused w next ≡ answer → First w next answer
+then-first never (Walked.End mid) e = record { mid = mid; first = refl; rest = e }
+then-first never (Walked.Refused number place) e = absurd (never number place e)
+
+-- where parts follow
+pub then-ends : (w : Walked) {next : ℕ → Walked} {end : ℕ} → andThen Refused w next ≡ End end → First w next (End end)
+then-ends w = then-first (λ number place e. let z : _≡_ {A = ℕ} 0 1 = cc in absurd (omega arith)) w
+
 -- ---- parts in sequence, one at a time
 module _ (part : ℕ → Walked) where
   pub sequence-none : (at : ℕ) → inSequence part zero at ≡ End at
@@ -67,22 +83,9 @@ module _ (part : ℕ → Walked) where
 
 -- ---- parts in sequence that end at `end`
 module _ (part : ℕ → Walked) (end : ℕ) where
-  -- the first part ends where the others begin
-  pub record First (others : ℕ → Walked) (at : ℕ) : Type 0 where
-    pub mid : ℕ
-    pub first : part at ≡ End mid
-    pub rest : others mid ≡ End end
-
-  first-by : (others : ℕ → Walked) (at : ℕ) (w : Walked) → part at ≡ w → andThen w others ≡ End end → First others at
-  first-by others at (Walked.End mid) is e = record { mid = mid; first = is; rest = e }
-  first-by others at (Walked.Refused number place) is e = let z : _≡_ {A = ℕ} 0 1 = cc in absurd (omega arith)
-
-  pub then-first : (others : ℕ → Walked) (at : ℕ) → andThen (part at) others ≡ End end → First others at
-  then-first others at e = first-by others at (part at) refl e
-
-  pub sequence-first : (n at : ℕ) → inSequence part (suc n) at ≡ End end → First (inSequence part n) at
+  pub sequence-first : (n at : ℕ) → inSequence part (suc n) at ≡ End end → First (part at) (inSequence part n) (End end)
   unfolding inSequence
-  sequence-first n = then-first (inSequence part n)
+  sequence-first n at = then-ends (part at)
 
   pub sequence-one : (at : ℕ) → inSequence part 1 at ≡ End end → part at ≡ End end
   sequence-one at e = let f = sequence-first 0 at e in f .first ∙ sym (sequence-none part (f .mid)) ∙ f .rest
@@ -90,14 +93,10 @@ module _ (part : ℕ → Walked) (end : ℕ) where
 -- by induction: Q is shown behind the last part, and carried back past each part that ends
 module _ (part : ℕ → Walked) (end : ℕ) (Q : ℕ → ℕ → Type 0) (base : Q zero end)
     (back : (n at x : ℕ) → part at ≡ End x → Q n x → Q (suc n) at) where
-  part-back : (n at : ℕ) (w : Walked) → part at ≡ w → ((x : ℕ) → inSequence part n x ≡ End end → Q n x) → andThen w (inSequence part n) ≡ End end → Q (suc n) at
-  part-back n at (Walked.End x) is h e = back n at x is (h x e)
-  part-back n at (Walked.Refused number place) is h e = let z : _≡_ {A = ℕ} 0 1 = cc in absurd (omega arith)
-
   pub sequence-induct : (n at : ℕ) → inSequence part n at ≡ End end → Q n at
   unfolding inSequence
   sequence-induct zero at e = let z : at ≡ end = cc in rw z base
-  sequence-induct (suc n) at e = part-back n at (part at) refl (sequence-induct n) e
+  sequence-induct (suc n) at e = let f = then-ends (part at) e in back n at (f .mid) (f .first) (sequence-induct n (f .mid) (f .rest))
 
 -- parts that each end behind their first record and within `most` end so in turn
 pub sequence-bound : (part : ℕ → Walked) (most : ℕ) → ((i e : ℕ) → part i ≡ End e → (i < e) × (e ≤ most))
@@ -116,14 +115,14 @@ module _ (part : ℕ → ℕ → Walked) (a b at end : ℕ) where
   unfolding operandsOf
   operands-none e = cc
 
-  pub operands-first : (n : ℕ) → operandsOf part a b (suc n) at ≡ End end → First (part a) end (inSequence (part b) n) at
+  pub operands-first : (n : ℕ) → operandsOf part a b (suc n) at ≡ End end → First (part a at) (inSequence (part b) n) (End end)
   unfolding operandsOf
-  operands-first n = then-first (part a) end (inSequence (part b) n) at
+  operands-first n = then-ends (part a at)
 
   pub operands-one : operandsOf part a b 1 at ≡ End end → part a at ≡ End end
   operands-one e = let f = operands-first 0 e in f .first ∙ sym (sequence-none (part b) (f .mid)) ∙ f .rest
 
-  pub operands-two : operandsOf part a b 2 at ≡ End end → First (part a) end (part b) at
+  pub operands-two : operandsOf part a b 2 at ≡ End end → First (part a at) (part b) (End end)
   operands-two e = let f = operands-first 1 e in record { mid = f .mid; first = f .first; rest = sequence-one (part b) end (f .mid) (f .rest) }
 
   operands-bound : (most : ℕ) → ((want i e : ℕ) → part want i ≡ End e → (i < e) × (e ≤ most)) → (n : ℕ) → at ≤ most

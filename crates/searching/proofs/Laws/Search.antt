@@ -17,7 +17,7 @@ use lib.IntN.{ℤ, pos}
 use lib.ListN.{length, getD}
 use lib.Signed.{_<ℤ_}
 use Rattle.integers.proofs.Laws.Parts.{by-test}
-use Rattle.states.specs.State.{Ranges}
+use Rattle.states.specs.Ranges.{Ranges}
 use Rattle.states.specs.Number.{countOf, stateOf, numberOf}
 use Rattle.states.proofs.Laws.Number.{number-below, state-within, state-of-number, number-of-state}
 use Rattle.states.proofs.Laws.Order.{nothing-before}

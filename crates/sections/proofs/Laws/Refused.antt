@@ -14,7 +14,7 @@ use Rattle.sections.specs.declared.Section.{Section}
 use Rattle.records.specs.Record.{fieldA, kindIs}
 use Rattle.records.specs.Kind.{number, truth}
 use Rattle.records.specs.Walk.{andThen, inSequence, walkOf, truthOf}
-use Rattle.sections.specs.Section.{noFields, variableFields, transitionFields, assignmentFields, edgeFields, andItems, itemsOf, variablesOf}
+use Rattle.sections.specs.Section.{noFields, variableFields, transitionFields, assignmentFields, edgeFields, itemsOf, variablesOf}
 use Rattle.sections.specs.Section.{assignmentsOf, transitionOf, transitionsOf, nodeOf, nodesOf, repeatedOf, edgeOf, edgesOf}
 use Rattle.records.proofs.Laws.Record.{kind-is}
 use Rattle.records.proofs.Laws.Walk.{walk-bound}
@@ -30,9 +30,6 @@ module _ (file : List ℕ) (n p : ℕ) where
 
   -- ---- transitions
   module _ (vars : ℕ) where
-    walk-right : (sort at : ℕ) → at < records → walkOf file vars 16 sort (at + 1) ≡ Refused n p → Right
-    walk-right sort at l e = refused-walk file vars n p 16 sort (at + 1) (omega arith) e
-
     refused-over : (at : ℕ) → at ≤ records → (k f : Bool) → cond k (cond f (Refused 6 at) (Refused 4 at)) (End at) ≡ Refused n p → Right
     refused-over at l true true e = let z : 6 ≡ n = cc in let y : at ≡ p = cc in omega arith
     refused-over at l true false e = let z : 4 ≡ n = cc in let y : at ≡ p = cc in omega arith
@@ -40,9 +37,11 @@ module _ (file : List ℕ) (n p : ℕ) where
 
     refused-assignment : (at : ℕ) (next : ℕ → Walked) → at ≤ records → ((x : ℕ) → x ≤ records → next x ≡ Refused n p → Right)
         → (k f d : Bool) (w : Walked) → kindIs file 0x04 at ≡ k → walkOf file vars 16 number (at + 1) ≡ w
-        → cond k (cond f (cond d (andThen w next) (Refused 6 at)) (Refused 4 at)) (End at) ≡ Refused n p → Right
+        → cond k (cond f (cond d (andThen Refused w next) (Refused 6 at)) (Refused 4 at)) (End at) ≡ Refused n p → Right
     refused-assignment at next l h true true true (Walked.End x) k w e = h x (walk-bound file vars 16 number (at + 1) x w .1) e
-    refused-assignment at next l h true true true (Walked.Refused m q) k w e = walk-right number at (kind-is file 0x04 at k .0) (w ∙ e)
+    refused-assignment at next l h true true true (Walked.Refused m q) k w e =
+        let here = kind-is file 0x04 at k .0 in
+        refused-walk file vars n p 16 number (at + 1) (omega arith) (w ∙ e)
     refused-assignment at next l h true true false w k is e = let z : 6 ≡ n = cc in let y : at ≡ p = cc in omega arith
     refused-assignment at next l h true false d w k is e = let z : 4 ≡ n = cc in let y : at ≡ p = cc in omega arith
     refused-assignment at next l h false f d w k is e = let z : _≡_ {A = ℕ} 0 1 = cc in absurd (omega arith)
@@ -55,19 +54,16 @@ module _ (file : List ℕ) (n p : ℕ) where
         refused-assignment at (assignmentsOf file vars left (set marks a 1)) l (refused-assignments left (set marks a 1))
         (kindIs file 0x04 at) (assignmentFields file vars at) (eqb (getD marks a 0) 0) (walkOf file vars 16 number (at + 1)) refl refl e
 
-    refused-guarded : (at : ℕ) → at < records → (w : Walked) → walkOf file vars 16 truth (at + 1) ≡ w
-        → andThen w (assignmentsOf file vars 12 (replicate 12 0)) ≡ Refused n p → Right
-    refused-guarded at l (Walked.End x) is e = refused-assignments 12 (replicate 12 0) x (walk-bound file vars 16 truth (at + 1) x is .1) e
-    refused-guarded at l (Walked.Refused m q) is e = walk-right truth at l (is ∙ e)
-
-    refused-transition : (at : ℕ) → at < records → transitionOf file vars at ≡ Refused n p → Right
-    unfolding transitionOf
-    refused-transition at l e = refused-guarded at l (walkOf file vars 16 truth (at + 1)) refl e
-
-    -- ---- nodes
     walk-ends : (sort at end : ℕ) → walkOf file vars 16 sort at ≡ End end → end ≤ records
     walk-ends sort at end e = walk-bound file vars 16 sort at end e .1
 
+    refused-transition : (at : ℕ) → at < records → transitionOf file vars at ≡ Refused n p → Right
+    unfolding transitionOf
+    refused-transition at l =
+        refused-then (truthOf file vars) records n p Right (walk-ends truth) (refused-walk file vars n p 16 truth)
+        (assignmentsOf file vars 12 (replicate 12 0)) (at + 1) (omega arith) (refused-assignments 12 (replicate 12 0))
+
+    -- ---- nodes
     refused-node : (ranks at : ℕ) → at < records → nodeOf file vars ranks at ≡ Refused n p → Right
     refused-node ranks at l =
         refused-then (truthOf file vars) records n p Right (walk-ends truth) (refused-walk file vars n p 16 truth)
@@ -93,7 +89,7 @@ module _ (file : List ℕ) (n p : ℕ) where
 
     refused-item : (m at : ℕ) (next : ℕ → Section) → at ≤ records → ((x : ℕ) → x ≤ records → next x ≡ Section.Refused n p → Right)
         → (k f : Bool) (w : Walked) → kindIs file kind at ≡ k → item at ≡ w
-        → cond k (cond f (andItems w next) (Section.Refused 4 at)) (Section.Items m at) ≡ Section.Refused n p → Right
+        → cond k (cond f (andThen Section.Refused w next) (Section.Refused 4 at)) (Section.Items m at) ≡ Section.Refused n p → Right
     refused-item m at next l h true true (Walked.End x) k w e = h x (ends at x (kind-is file kind at k .0) w) e
     refused-item m at next l h true true (Walked.Refused a b) k w e =
         let z : a ≡ n = cc in

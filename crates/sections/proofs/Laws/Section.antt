@@ -26,8 +26,8 @@ use Rattle.sections.specs.declared.Section.{Section}
 use Rattle.records.specs.Record.{fieldA, kindIs, zerosOf}
 use Rattle.records.specs.Kind.{number, truth}
 use Rattle.records.specs.Walk.{andThen, inSequence, walkOf, truthOf}
-use Rattle.sections.specs.Section.{transitionFields, assignmentFields, andItems, itemsOf, assignmentsOf, transitionOf, nodeOf, repeatedOf, edgeOf}
-use Rattle.records.proofs.Laws.Walk.{First, then-first, walk-bound, sequence-induct, sequence-bound, sequence-none, sequence-next}
+use Rattle.sections.specs.Section.{transitionFields, assignmentFields, itemsOf, assignmentsOf, transitionOf, nodeOf, repeatedOf, edgeOf}
+use Rattle.records.proofs.Laws.Walk.{First, then-ends, walk-bound, sequence-induct, sequence-bound, sequence-none, sequence-next}
 
 -- ---- items
 module _ (file : List ℕ) (kind : ℕ) (fields : ℕ → Bool) (item : ℕ → Walked) where
@@ -48,7 +48,7 @@ module _ (file : List ℕ) (kind : ℕ) (fields : ℕ → Bool) (item : ℕ → 
 
     item-back : (left n at : ℕ) (rest : ℕ → Section) → ((x : ℕ) → rest x ≡ Section.Items m end → Q left (n + 1) x)
         → (k f : Bool) (w : Walked) → kindIs file kind at ≡ k → fields at ≡ f → item at ≡ w
-        → cond k (cond f (andItems w rest) (Section.Refused 4 at)) (Section.Items n at) ≡ Section.Items m end → Q (suc left) n at
+        → cond k (cond f (andThen Section.Refused w rest) (Section.Refused 4 at)) (Section.Items n at) ≡ Section.Items m end → Q (suc left) n at
     item-back left n at rest h true true (Walked.End x) k f w e = back left n at x k f w (h x e)
     item-back left n at rest h true true (Walked.Refused number place) k f w e = let z : _≡_ {A = ℕ} 0 1 = cc in absurd (omega arith)
     item-back left n at rest h true false w k f is e = let z : _≡_ {A = ℕ} 0 1 = cc in absurd (omega arith)
@@ -143,7 +143,8 @@ module _ (file : List ℕ) (vars end : ℕ) where
 
     assign-back : (assigned : List ℕ) (at : ℕ) (next : ℕ → Walked) → ((x : ℕ) → next x ≡ End end → Q (set assigned (fieldA file at) 1) x)
         → (k f d : Bool) (w : Walked) → kindIs file 0x04 at ≡ k → assignmentFields file vars at ≡ f → eqb (getD assigned (fieldA file at) 0) 0 ≡ d
-        → walkOf file vars 16 number (at + 1) ≡ w → cond k (cond f (cond d (andThen w next) (Refused 6 at)) (Refused 4 at)) (End at) ≡ End end → Q assigned at
+        → walkOf file vars 16 number (at + 1) ≡ w
+        → cond k (cond f (cond d (andThen Refused w next) (Refused 6 at)) (Refused 4 at)) (End at) ≡ End end → Q assigned at
     assign-back assigned at next h true true true (Walked.End x) k f d w e = back assigned at x k f (eqb-true _ _ d) w (h x e)
     assign-back assigned at next h true true true (Walked.Refused n q) k f d w e = let z : _≡_ {A = ℕ} 0 1 = cc in absurd (omega arith)
     assign-back assigned at next h true true false w k f d is e = let z : _≡_ {A = ℕ} 0 1 = cc in absurd (omega arith)
@@ -170,13 +171,9 @@ module _ (file : List ℕ) (vars end : ℕ) where
     pub guard : walkOf file vars 16 truth (at + 1) ≡ End place
     pub assigns : assignmentsOf file vars 12 (replicate 12 0) place ≡ End end
 
-  guarded : (at : ℕ) (w : Walked) → walkOf file vars 16 truth (at + 1) ≡ w → andThen w (assignmentsOf file vars 12 (replicate 12 0)) ≡ End end → Guarded at
-  guarded at (Walked.End i) is e = record { place = i; guard = is; assigns = e }
-  guarded at (Walked.Refused n p) is e = let z : _≡_ {A = ℕ} 0 1 = cc in absurd (omega arith)
-
   pub transition-opens : (at : ℕ) → transitionOf file vars at ≡ End end → Guarded at
   unfolding transitionOf
-  transition-opens at e = guarded at (walkOf file vars 16 truth (at + 1)) refl e
+  transition-opens at e = let g = then-ends (walkOf file vars 16 truth (at + 1)) e in record { place = g .mid; guard = g .first; assigns = g .rest }
 
   pub transition-bound : (at : ℕ) → transitionOf file vars at ≡ End end → (at < end) × (end ≤ length file / 8)
   transition-bound at e =
@@ -193,8 +190,8 @@ transitions-bound file vars t first end l e =
 
 -- ---- a node: where its assertion ends, and its ranks from there on
 module _ (file : List ℕ) (vars ranks at end : ℕ) (e : nodeOf file vars ranks at ≡ End end) where
-  pub node-opens : First (truthOf file vars) end (inSequence (walkOf file vars 16 number) ranks) (at + 1)
-  node-opens = then-first (truthOf file vars) end (inSequence (walkOf file vars 16 number) ranks) (at + 1) e
+  pub node-opens : First (truthOf file vars (at + 1)) (inSequence (walkOf file vars 16 number) ranks) (End end)
+  node-opens = then-ends (truthOf file vars (at + 1)) e
 
   pub node-bound : (at < end) × (end ≤ length file / 8)
   node-bound =

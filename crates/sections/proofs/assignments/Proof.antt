@@ -7,8 +7,7 @@ use mathlib.Core.Path.{refl, _≡_}
 use Prim.Native.Nat.{_+_, _*_}
 use lib.ListN.{replicate}
 use Rattle.sections.specs.Section.{assignmentsOf}
-use Rattle.sections.proofs.Steps.Section.{found-here, assigned-below}
-use Rattle.sections.proofs.Steps.Section.{assign-stop, assign-field, assign-over, assign-again, assign-ends, assign-refused}
+use Rattle.sections.proofs.Steps.Section.{found-here, assigned-below, assign-stop, assign-field, assign-over, assign-again, assign-ends, assign-refused}
 use Rattle.sections.proofs.assignments.Statement.{statement}
 use Rattle.sections.proofs.assignments.Tie as tie
 

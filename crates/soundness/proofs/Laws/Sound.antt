@@ -129,19 +129,16 @@ module _ (file : List ℕ) (g : Diagram) (r : Loaded file g) where
   module _ (all : (c : Condition) → Listed file g c → Holds file g c) where
     -- ---- invariance
     module _ (kind : g .claim ≡ Kind.Invariance) where
-      row : propertyOf (g .claim) ≡ propertyOf Kind.Invariance
-      row = rw kind refl
-
       every : (i : ℕ) → propertyOf (g .claim) .from ≤ i
-      every i = rw (row, invariance-row) (omega arith)
+      every i = rw (kind, invariance-row) (omega arith)
 
       invariance-conditions : InvarianceConditions (systemOf file g) (drawn file g) (qHolds file g 0)
       invariance-conditions =
           record {
-            start = start-holds file g (all Start (start-in file g (rw (row, invariance-row) refl)));
+            start = start-holds file g (all Start (start-in file g (rw (kind, invariance-row) refl)));
             cover = λ i h s w t.
-                subst T (q-only file g s (rw (row, invariance-row) refl) i)
-                (cover-holds file g i (all (Cover i) (covered-in file g (rw (row, invariance-row) refl) i h)) s w t);
+                subst T (q-only file g s (rw (kind, invariance-row) refl) i)
+                (cover-holds file g i (all (Cover i) (covered-in file g (rw (kind, invariance-row) refl) i h)) s w t);
             range = λ i h t ht. range-holds file g i t (all (Range i t) (range-in file g i t (every i) h ht));
             step = λ i h t ht. keep i t (all (Step i t) (step-in file g i t (every i) h ht));
           }
@@ -151,37 +148,31 @@ module _ (file : List ℕ) (g : Diagram) (r : Loaded file g) where
       waiting-count : g .nodes ≡ suc (g .nodes - 1)
       waiting-count = omega (arith, keeps .nodes .0)
 
-      row-of : propertyOf (g .claim) ≡ propertyOf Kind.WaitFor
-      row-of = rw kind refl
-
       above : (i : ℕ) → 1 ≤ i → propertyOf (g .claim) .from ≤ i
-      above i one = rw (row-of, wait-for-row) one
+      above i one = rw (kind, wait-for-row) one
 
       waiting-conditions : WaitForConditions (systemOf file g) (drawn file g) (pHolds file g) (g .nodes - 1) (qHolds file g)
       waiting-conditions =
           record {
             count = waiting-count;
-            not-up = not-up (rw (row-of, wait-for-row) refl);
-            entry = entry-holds file g (all Entry (entry-in file g (rw (row-of, wait-for-row) refl)));
-            cover = λ i h. cover-holds file g i (all (Cover i) (covered-in file g (rw (row-of, wait-for-row) refl) i h));
+            not-up = not-up (rw (kind, wait-for-row) refl);
+            entry = entry-holds file g (all Entry (entry-in file g (rw (kind, wait-for-row) refl)));
+            cover = λ i h. cover-holds file g i (all (Cover i) (covered-in file g (rw (kind, wait-for-row) refl) i h));
             range = λ i one h t ht. range-holds file g i t (all (Range i t) (range-in file g i t (above i one) h ht));
             step = λ i one h t ht. keep i t (all (Step i t) (step-in file g i t (above i one) h ht));
           }
 
     -- ---- chain
     module _ (kind : g .claim ≡ Kind.Chain) where
-      row-is : propertyOf (g .claim) ≡ propertyOf Kind.Chain
-      row-is = rw kind refl
-
       falls : propertyOf (g .claim) .rising ≡ false
-      falls = rw (row-is, chain-row) refl
+      falls = rw (kind, chain-row) refl
 
       behind : (i : ℕ) → 1 ≤ i → propertyOf (g .claim) .from ≤ i
-      behind i one = rw (row-is, chain-row) one
+      behind i one = rw (kind, chain-row) one
 
       module _ (i : ℕ) (one : 1 ≤ i) (below : i < g .nodes) where
         its : DoubleTransition file g i
-        its = keeps .doubled (rw (row-is, chain-row) refl) i (behind i one) below
+        its = keeps .doubled (rw (kind, chain-row) refl) i (behind i one) below
 
         -- the record's transition leaves the node by a double edge
         leaves : isDouble file g i (its .transition) ≡ true
@@ -223,7 +214,7 @@ module _ (file : List ℕ) (g : Diagram) (r : Loaded file g) where
             double-down = λ i j one h x. double-down i one h j x;
             double-transition = double-there;
             double-just = double-just;
-            entry = entry-holds file g (all Entry (entry-in file g (rw (row-is, chain-row) refl)));
+            entry = entry-holds file g (all Entry (entry-in file g (rw (kind, chain-row) refl)));
             cover = cover-holds file g 0 (all (Cover 0) (goal-in file g r));
             range = λ i one h t ht. range-holds file g i t (all (Range i t) (range-in file g i t (behind i one) h ht));
             step = λ i one h t ht. chain-step i one h t ht (all (Step i t) (step-in file g i t (behind i one) h ht));

@@ -8,7 +8,7 @@ use mathlib.Core.List.{List, [], _∷_, _++_, map, flatten}
 use Prim.Native.Nat.{ℕ, _+_}
 use lib.ListN.{length}
 use Rattle.diagrams.specs.declared.Diagram.{Diagram}
-use Rattle.diagrams.specs.declared.Found.{Found}
+use Rattle.shapes.specs.declared.Reading.{Reading}
 use Rattle.diagrams.specs.Diagram.{foundOf, diagramOf, Loaded}
 use Rattle.diagrams.proofs.Laws.Diagram.{diagram-loaded, readable-loaded, loaded-readable, loaded-once}
 use Rattle.diagrams.proofs.Files
@@ -69,7 +69,7 @@ diagram c = diagramOf (file c) (outline c)
 
 -- ---- what is claimed
 abbrev pub Reads : Case → Type 0
-Reads c = foundOf (file c) ≡ Found.Diagram (outline c)
+Reads c = foundOf (file c) ≡ Reading.Found (outline c)
 
 loaded : (c : Case) → Reads c → Loaded (file c) (diagram c)
 loaded c r = diagram-loaded (file c) (outline c) r

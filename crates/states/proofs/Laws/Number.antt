@@ -21,10 +21,12 @@ use lib.Signed.{leZ, ltZ, _≤ℤ_, ≤ℤ-refl}
 use Rattle.integers.specs.Radix.{at, offsetOf}
 use Rattle.integers.proofs.Laws.Parts.{ints, add-parts, by-test}
 use Rattle.integers.proofs.Laws.Radix.{at-above, at-below, offset-at, at-offset, offset-self, offset-next, offset-rises}
-use Rattle.states.specs.State.{Ranges, Within}
-use Rattle.states.specs.State.Ranges.{none as no-ranges, more as more-ranges}
+use Rattle.states.specs.State.{Within}
+use Rattle.states.specs.Ranges.{Ranges}
+use Rattle.states.specs.Ranges.Ranges.{none as no-ranges, more as more-ranges}
 use Rattle.states.specs.State.Within.{none as no-values, more as more-values}
-use Rattle.states.specs.Number.{sizeOf, countOf, stateOf, numberOf, lastOf, advanceOf}
+use Rattle.states.specs.Number.{sizeOf, countOf, stateOf, numberOf}
+use Rattle.states.specs.Advance.{lastOf, advanceOf}
 use Rattle.states.proofs.Laws.State.{within-ranges}
 
 pub size-pos : (low high : ℤ) → 0 < sizeOf low high

@@ -12,7 +12,8 @@ use lib.IntN.{ℤ}
 use lib.Signed.{_<ℤ_}
 use Rattle.integers.proofs.Laws.Parts.{ints, le-or-lt, ≤ℤ-antisym}
 use Rattle.integers.proofs.Laws.Radix.{offset-less}
-use Rattle.states.specs.State.{Ranges, Within}
+use Rattle.states.specs.State.{Within}
+use Rattle.states.specs.Ranges.{Ranges}
 use Rattle.states.specs.State.Within.{none as no-values, more as more-values}
 use Rattle.states.specs.Number.{numberOf}
 use Rattle.states.proofs.Laws.Number.{number-below, first-number}

@@ -13,8 +13,9 @@ use lib.IntN.{ℤ, pos}
 use lib.ListN.{length, getD, set}
 use lib.Signed.{_≤ℤ_, ≤ℤ-refl}
 use Rattle.integers.proofs.Laws.Parts.{≤ℤ-trans}
-use Rattle.states.specs.State.{Ranges, Within, Idle}
-use Rattle.states.specs.State.Ranges.{none as no-ranges, more as more-ranges}
+use Rattle.states.specs.State.{Within}
+use Rattle.states.specs.Ranges.{Ranges, Idle}
+use Rattle.states.specs.Ranges.Ranges.{none as no-ranges, more as more-ranges}
 use Rattle.states.specs.State.Within.{none as no-values, more as more-values}
 
 -- ---- ranges

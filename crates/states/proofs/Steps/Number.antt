@@ -14,10 +14,12 @@ use lib.Seq.{drop-cons, take-all, set-getD}
 use lib.Signed.{leZ, ltZ}
 use Rattle.integers.specs.Radix.{at, offsetOf}
 use Rattle.integers.proofs.Laws.Parts.{ints}
-use Rattle.states.specs.State.{Ranges, Within, Idle}
-use Rattle.states.specs.State.Ranges.{none as no-ranges, more as more-ranges}
+use Rattle.states.specs.State.{Within}
+use Rattle.states.specs.Ranges.{Ranges, Idle}
+use Rattle.states.specs.Ranges.Ranges.{none as no-ranges, more as more-ranges}
 use Rattle.states.specs.State.Within.{none as no-values, more as more-values}
-use Rattle.states.specs.Number.{sizeOf, countOf, stateOf, numberOf, lastOf, advanceOf}
+use Rattle.states.specs.Number.{sizeOf, countOf, stateOf, numberOf}
+use Rattle.states.specs.Advance.{lastOf, advanceOf}
 use Rattle.states.proofs.Laws.State.{within-ranges}
 use Rattle.states.proofs.Laws.Number.{size-pos, count-pos, number-below}
 

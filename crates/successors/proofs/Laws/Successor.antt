@@ -12,7 +12,7 @@ use Prim.Native.Nat.{ℕ, zero, suc, _+_, _/_}
 use lib.ListN.{length, getD, set}
 use lib.IntN.{ℤ, pos}
 use lib.Signed.{_≤ℤ_}
-use Rattle.integers.specs.Interval.{In}
+use Rattle.integers.specs.Inside.{In}
 use Rattle.integers.proofs.Laws.Parts.{by-test}
 use Rattle.records.specs.Record.{kindIs}
 use Rattle.states.specs.State.{Within}
@@ -20,8 +20,9 @@ use Rattle.states.specs.State.Within.{none as no-values, more as more-values}
 use Rattle.states.proofs.Laws.State.{ranges-at, within-ranges, within-set}
 use Rattle.expressions.specs.Expression.{partAt, behind}
 use Rattle.expressions.proofs.Laws.Sound.{constant-in}
-use Rattle.evaluating.specs.Transition.{assignmentsFrom, inRangeOf, allInRange, assigned, guardOf, assignmentList, enabledOf, successorOf}
-use Rattle.evaluating.specs.Transition.{AssignmentsFit, TransitionFits}
+use Rattle.evaluating.specs.Transition.{assignmentsFrom, inRangeOf, allInRange, assigned, assignmentList}
+use Rattle.evaluating.specs.Step.{guardOf, successorOf, enabledOf}
+use Rattle.evaluating.specs.Fits.{AssignmentsFit, TransitionFits}
 use Rattle.evaluating.proofs.Laws.Transition.{in-range-both, in-range-ends, range-none, range-more, assigned-none, assigned-more, assignment-is}
 use Rattle.evaluating.proofs.Laws.Transition.{list-end, list-none, list-more, list-from, fits-more}
 use Rattle.evaluating.proofs.Laws.Step.{guard-holds, enabled-and, enabled-both, successor-assigned}

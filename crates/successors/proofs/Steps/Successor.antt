@@ -7,11 +7,12 @@ use lib.ListN.{length}
 use lib.IntN.{ℤ}
 use mir.Syntax.{w16}
 use mir.Val.{SFits}
-use Rattle.integers.specs.Interval.{In, bounds, Bounded}
+use Rattle.integers.specs.Interval.{bounds}
+use Rattle.integers.specs.Inside.{In, Bounded}
 use Rattle.integers.proofs.Laws.Parts.{ints, one-part}
 use Rattle.records.specs.Record.{kindIs}
 use Rattle.expressions.specs.Expression.{behind}
-use Rattle.evaluating.specs.Transition.{AssignmentsFit}
+use Rattle.evaluating.specs.Fits.{AssignmentsFit}
 use Rattle.evaluating.proofs.Laws.Transition.{fits-more}
 use Rattle.boxes.specs.declared.Box.{Box}
 use Rattle.domains.specs.declared.seen.Seen.{Seen}

@@ -11,8 +11,9 @@ use native.Mathlib.Nat.{min-le-left}
 use lib.ListN.{length, getD, length-take}
 use lib.Seq.{getD-take}
 use lib.IntN.{ℤ}
-use Rattle.expressions.specs.Expression.{TruthFits}
-use Rattle.evaluating.specs.Transition.{enabledOf, successorOf, TransitionFits}
+use Rattle.expressions.specs.Fits.{TruthFits}
+use Rattle.evaluating.specs.Step.{successorOf, enabledOf}
+use Rattle.evaluating.specs.Fits.{TransitionFits}
 use Rattle.evaluating.proofs.Laws.Step.{enabled-and, successor-state}
 use Rattle.truths.proofs.Laws.Truth.{and-asked}
 use Rattle.boxes.specs.declared.Box.{Box}

@@ -16,7 +16,8 @@ use Rattle.truths.specs.Truth.{implies}
 use Rattle.truths.proofs.Laws.Truth.{implies-true, implies-false, implies-both, implies-own}
 use Rattle.states.specs.State.{Within}
 use Rattle.expressions.specs.Expression.{holdsOf}
-use Rattle.evaluating.specs.Transition.{enabledOf, successorOf, TransitionFits}
+use Rattle.evaluating.specs.Step.{successorOf, enabledOf}
+use Rattle.evaluating.specs.Fits.{TransitionFits}
 use Rattle.diagrams.specs.declared.Diagram.{Diagram}
 use Rattle.diagrams.specs.Diagram.{Loaded}
 use Rattle.diagrams.specs.Truth.{nodeHolds, claimedAt, qAt}
@@ -112,7 +113,7 @@ module _ (file : List ℕ) (g : Diagram) (r : Loaded file g) where
         rw (← (node-at file g state n), ← (guard-at file g t state), ← (enabled-at file g t state), enabled-and file g t state)
         (implies-own (nodeHolds file g n state) (guardHolds file g t state) (valuesFit file g t state))
 
-    says : (c : Condition) → Parts file g c → passesOf lows highs file (testOf file g c) state ≡ conditionHolds file g c state
+    says : (c : Condition) → Parts g c → passesOf lows highs file (testOf file g c) state ≡ conditionHolds file g c state
     unfolding testOf chosenOf conditionHolds passesOf preparedOf concludesOf someHolds
     says Start p = rw (start-at file g state) (says-some (g .start))
     says Entry p = rw (p-at file g state) (says-some (claimedAt file g 0))
@@ -138,7 +139,7 @@ module _ (file : List ℕ) (g : Diagram) (r : Loaded file g) where
   only at f zero l = f
   only at f (suc i) l = absurd (omega arith)
 
-  fits : (c : Condition) → Parts file g c → TestFits lows highs file (testOf file g c)
+  fits : (c : Condition) → Parts g c → TestFits lows highs file (testOf file g c)
   unfolding testOf chosenOf
   fits Start p =
       places-fit lows highs file (g .start) 0 all Conclusion.SomeTarget (keeps .start .fits) (chosen-few (replicate 32 true))

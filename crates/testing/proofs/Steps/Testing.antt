@@ -13,8 +13,10 @@ use lib.IntN.{ℤ}
 use Rattle.diagrams.specs.declared.Diagram.{Diagram}
 use Rattle.diagrams.specs.Diagram.{Loaded, edgeOf}
 use Rattle.evaluating.specs.declared.Stepped.{Stepped}
-use Rattle.expressions.specs.Expression.{holdsOf, TruthFits}
-use Rattle.evaluating.specs.Transition.{guardOf, enabledOf, stepOf, TransitionFits}
+use Rattle.expressions.specs.Expression.{holdsOf}
+use Rattle.expressions.specs.Fits.{TruthFits}
+use Rattle.evaluating.specs.Step.{guardOf, enabledOf, stepOf}
+use Rattle.evaluating.specs.Fits.{TransitionFits}
 use Rattle.conditions.specs.declared.Condition.{Condition}
 use Rattle.conditions.specs.declared.Condition.the-variants.{Start, Entry, Cover, Range, Step, Enabling}
 use Rattle.testing.specs.declared.Conclusion.{Conclusion}
@@ -244,8 +246,8 @@ module _ {ranges : Box} {file : List ℕ} {test : Test} (fits : TestFits (ranges
 
 -- ---- the test of a condition
 module _ (file : List ℕ) (g : Diagram) (r : Loaded file g) where
-  pub parts-of : {c d : Condition} → Listed file g c → c ≡ d → Parts file g d
-  parts-of {c} listed e = subst (Parts file g) e (listed-parts file g r c listed)
+  pub parts-of : {c d : Condition} → Listed file g c → c ≡ d → Parts g d
+  parts-of {c} listed e = subst (Parts g) e (listed-parts file g r c listed)
 
   pub keeps : Promise file g
   keeps = promised file g r

@@ -22,7 +22,7 @@ module _ (s : tie.Start) where
   small n l = keeps _ _ (s .pre .0) .assertion n l .small
 
   -- what the condition speaks of is there
-  parts : {d : Condition} → s .args .condition ≡ d → Parts (s .args .file .now) (s .args .diagram) d
+  parts : {d : Condition} → s .args .condition ≡ d → Parts (s .args .diagram) d
   parts e = parts-of _ _ (s .pre .0) (s .pre .1) e
 
 enum-told : tie.Need-enum-told

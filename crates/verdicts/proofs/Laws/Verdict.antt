@@ -18,16 +18,14 @@ use lib.IntN.{ℤ}
 use lib.Dec.{ltb}
 use Rattle.shapes.specs.declared.Outline.{Outline}
 use Rattle.diagrams.specs.declared.Diagram.{Diagram}
-use Rattle.diagrams.specs.declared.Found.{Found}
-use Rattle.diagrams.specs.Diagram.{foundOf, diagramOf}
-use Rattle.diagrams.specs.Diagram.{Loaded}
-use Rattle.diagrams.specs.Diagram.{State}
+use Rattle.shapes.specs.declared.Reading.{Reading}
+use Rattle.diagrams.specs.Diagram.{foundOf, diagramOf, Loaded, State}
 use Rattle.diagrams.proofs.Laws.Diagram.{promised}
 use Rattle.states.proofs.Laws.Number.{number-below, state-of-number, number-of-state, state-within}
 use Rattle.conditions.specs.Condition.{totalOf, conditionAt}
 use Rattle.testing.specs.Holding.{conditionHolds}
-use Rattle.verdicts.specs.Verdict.{stateCount, stateAt, stateNumber}
-use Rattle.verdicts.specs.Verdict.{unnamedOf, namedOf, breakingOf, isTrue, brokenOf, brokenAt, testsOf, judgedOf, verdictBy, verdictOf, checkOf}
+use Rattle.verdicts.specs.Verdict.{stateAt, stateNumber}
+use Rattle.verdicts.specs.Verdict.{unnamedOf, namedOf, breakingOf, isTrue, brokenOf, brokenAt, testsOf, judgedOf, verdictOf, checkOf}
 use Rattle.conditions.specs.declared.Condition.{Condition}
 use Rattle.report.specs.declared.Verdict.{Verdict}
 use Rattle.truths.proofs.Laws.First.{first-is, first-passes, first-fails}
@@ -40,41 +38,41 @@ module _ (file : List ℕ) (g : Diagram) where
   true-of k = isTrue file g (conditionAt file g k)
 
   -- ---- one condition
-  pub true-at : (c : Condition) → ((n : ℕ) → n < stateCount g → conditionHolds file g c (stateAt g n) ≡ true) → isTrue file g c ≡ true
+  pub true-at : (c : Condition) → ((n : ℕ) → n < g .states → conditionHolds file g c (stateAt g n) ≡ true) → isTrue file g c ≡ true
   unfolding isTrue breakingOf
   true-at c h =
-      let s = stateCount g in
+      let s = g .states in
       rw (first-is (holds-at c) s s (le-refl s) h (λ l. absurd (lt-irrefl s l))) (le-leb s s (le-refl s))
 
-  pub true-holds : (c : Condition) → isTrue file g c ≡ true → (n : ℕ) → n < stateCount g → conditionHolds file g c (stateAt g n) ≡ true
+  pub true-holds : (c : Condition) → isTrue file g c ≡ true → (n : ℕ) → n < g .states → conditionHolds file g c (stateAt g n) ≡ true
   unfolding isTrue breakingOf
-  true-holds c t n l = first-passes (holds-at c) (stateCount g) n (lt-of-lt-of-le l (leb-true _ _ t))
+  true-holds c t n l = first-passes (holds-at c) (g .states) n (lt-of-lt-of-le l (leb-true _ _ t))
 
   -- n is the first state that breaks the condition
   pub record Breaks (c : Condition) (n : ℕ) : Type 0 where
-    pub state : n < stateCount g
+    pub state : n < g .states
     pub held : (k : ℕ) → k < n → conditionHolds file g c (stateAt g k) ≡ true
     pub fails : conditionHolds file g c (stateAt g n) ≡ false
 
   module _ (c : Condition) {n : ℕ} (b : Breaks c n) where
     breaks-at : breakingOf file g c ≡ n
     unfolding breakingOf
-    breaks-at = first-is (holds-at c) (stateCount g) n (le-of-lt (b .state)) (b .held) (λ k. b .fails)
+    breaks-at = first-is (holds-at c) (g .states) n (le-of-lt (b .state)) (b .held) (λ k. b .fails)
 
     not-true : isTrue file g c ≡ false
     unfolding isTrue
-    not-true = rw breaks-at (lt-leb (stateCount g) n (b .state))
+    not-true = rw breaks-at (lt-leb (g .states) n (b .state))
 
   pub breaks-first : (c : Condition) → isTrue file g c ≡ false → Breaks c (breakingOf file g c)
   unfolding isTrue breakingOf
   breaks-first c f =
       let l = leb-false _ _ f in
-      let s = stateCount g in
+      let s = g .states in
       record { state = l; held = λ k m. first-passes (holds-at c) s k m; fails = first-fails (holds-at c) s l }
 
   -- ---- the verdict
   pub judged-whole : ((k : ℕ) → k < totalOf file g → isTrue file g (conditionAt file g k) ≡ true)
-      → judgedOf file g ≡ unnamedOf 0 (totalOf file g) (totalOf file g * stateCount g)
+      → judgedOf file g ≡ unnamedOf 0 (totalOf file g) (totalOf file g * g .states)
   unfolding judgedOf testsOf brokenOf
   judged-whole h =
       let t = totalOf file g in
@@ -82,7 +80,7 @@ module _ (file : List ℕ) (g : Diagram) where
 
   pub judged-broken : (k : ℕ) → k < totalOf file g → ((j : ℕ) → j < k → isTrue file g (conditionAt file g j) ≡ true)
       → (n : ℕ) → Breaks (conditionAt file g k) n
-      → judgedOf file g ≡ namedOf (conditionAt file g k) k (stateAt g n) (k * stateCount g + n + 1)
+      → judgedOf file g ≡ namedOf (conditionAt file g k) k (stateAt g n) (k * g .states + n + 1)
   unfolding judgedOf testsOf brokenAt brokenOf
   judged-broken k l before n b =
       let c = conditionAt file g k in
@@ -96,11 +94,11 @@ module _ (file : List ℕ) (g : Diagram) where
     pub below : k < totalOf file g
     pub before : (j : ℕ) → j < k → isTrue file g (conditionAt file g j) ≡ true
     pub breaks : Breaks (conditionAt file g k) n
-    pub is : v ≡ namedOf (conditionAt file g k) k (stateAt g n) (k * stateCount g + n + 1)
+    pub is : v ≡ namedOf (conditionAt file g k) k (stateAt g n) (k * g .states + n + 1)
 
   pub record Whole (v : Verdict) : Type 0 where
     pub all : (k : ℕ) → k < totalOf file g → isTrue file g (conditionAt file g k) ≡ true
-    pub is : v ≡ unnamedOf 0 (totalOf file g) (totalOf file g * stateCount g)
+    pub is : v ≡ unnamedOf 0 (totalOf file g) (totalOf file g * g .states)
 
   pub judged-cases : Broken (judgedOf file g) ⊎ Whole (judgedOf file g)
   unfolding brokenOf
@@ -125,13 +123,16 @@ module _ (file : List ℕ) (g : Diagram) where
           inr (record { all = all; is = judged-whole all })
 
 module _ (file : List ℕ) (g : Diagram) (r : Loaded file g) where
-  pub state-numbered : (n : ℕ) → n < stateCount g → State g (stateAt g n) × (stateNumber g (stateAt g n) ≡ n)
-  unfolding stateCount stateAt stateNumber
-  state-numbered n l = let ranges = promised file g r .ranges in (state-within ranges n l, number-of-state ranges n l)
+  pub state-numbered : (n : ℕ) → n < g .states → State g (stateAt g n) × (stateNumber g (stateAt g n) ≡ n)
+  unfolding stateAt stateNumber
+  state-numbered n l =
+      let p = promised file g r in
+      let k = rw (p .counted) at l in
+      (state-within (p .ranges) n k, number-of-state (p .ranges) n k)
 
-  pub number-state : (state : List ℤ) → State g state → (stateNumber g state < stateCount g) × (stateAt g (stateNumber g state) ≡ state)
-  unfolding stateCount stateAt stateNumber
-  number-state state s = (number-below s, state-of-number s)
+  pub number-state : (state : List ℤ) → State g state → (stateNumber g state < g .states) × (stateAt g (stateNumber g state) ≡ state)
+  unfolding stateAt stateNumber
+  number-state state s = (rw (promised file g r .counted) (number-below s), state-of-number s)
 
 -- ---- any file
 module _ (file : List ℕ) where
@@ -143,10 +144,10 @@ module _ (file : List ℕ) where
   unfolding checkOf
   check-long l = rw (le-ltb _ _ l)
 
-  pub verdict-found : (o : Outline) → foundOf file ≡ Found.Diagram o → verdictOf file ≡ judgedOf file (diagramOf file o)
-  unfolding verdictOf verdictBy
+  pub verdict-found : (o : Outline) → foundOf file ≡ Reading.Found o → verdictOf file ≡ judgedOf file (diagramOf file o)
+  unfolding verdictOf
   verdict-found o is = rw is
 
-  pub verdict-refused : (number place : ℕ) → foundOf file ≡ Found.Refused number place → verdictOf file ≡ unnamedOf number place 0
-  unfolding verdictOf verdictBy
+  pub verdict-refused : (number place : ℕ) → foundOf file ≡ Reading.Refused number place → verdictOf file ≡ unnamedOf number place 0
+  unfolding verdictOf
   verdict-refused number place is = rw is

@@ -1,6 +1,6 @@
 -- The search for the lowest broken condition: what is at hand before it, a condition and its test, and the loops over the states and the conditions.
 -- Assumes nothing.
-use mathlib.Core.Path.{_≡_, sym, ap, _∙_}
+use mathlib.Core.Path.{_≡_, sym, _∙_}
 use mathlib.Core.Bool.{Bool, true, false, cond}
 use mathlib.Core.List.{List}
 use Prim.Native.Nat.{ℕ, _+_, _*_, _<_, _≤_}
@@ -10,14 +10,16 @@ use borrow.Author.Count.{below-more}
 use borrow.Author.Tests.{le-leb, lt-leb}
 use lib.IntN.{ℤ}
 use lib.ListN.{length}
-use Rattle.states.specs.State.{Ranges, Within, Idle}
-use Rattle.states.specs.Number.{countOf, stateOf, advanceOf}
+use Rattle.states.specs.State.{Within}
+use Rattle.states.specs.Ranges.{Ranges, Idle}
+use Rattle.states.specs.Number.{countOf, stateOf}
+use Rattle.states.specs.Advance.{advanceOf}
 use Rattle.states.proofs.Laws.Number.{first-state, advance-next}
-use Rattle.expressions.specs.Expression.{spansOf, Spans}
+use Rattle.expressions.specs.Spans.{spansOf, Spans}
 use Rattle.expressions.proofs.Laws.Span.{spans-right}
 use Rattle.diagrams.specs.declared.Diagram.{Diagram}
 use Rattle.shapes.specs.declared.Outline.{Outline}
-use Rattle.diagrams.specs.declared.Found.{Found}
+use Rattle.shapes.specs.declared.Reading.{Reading}
 use Rattle.diagrams.specs.Diagram.{foundOf, diagramOf, Loaded, State}
 use Rattle.diagrams.specs.Promise.{Promise}
 use Rattle.diagrams.proofs.Laws.Diagram.{promised}
@@ -28,7 +30,7 @@ use Rattle.testing.specs.Holding.{conditionHolds}
 use Rattle.testing.specs.Testing.{testOf, passesOf, TestFits}
 use Rattle.testing.specs.declared.Test.{Test}
 use Rattle.testing.proofs.Laws.Testing.{prepared, test-fits}
-use Rattle.verdicts.specs.Verdict.{stateCount, stateAt, unnamedOf, namedOf, isTrue, judgedOf, singleJudged}
+use Rattle.verdicts.specs.Verdict.{stateAt, unnamedOf, namedOf, isTrue, judgedOf, singleJudged}
 use Rattle.verdicts.specs.declared.Single.{Single}
 use Rattle.boxes.specs.Box.{box}
 use Rattle.searching.specs.declared.Search.{Search}
@@ -46,7 +48,7 @@ module _ (file : List ℕ) (g : Diagram) (r : Loaded file g) where
   spans-serve e = rw e (spans-right file small)
 
 -- what was found, looked up
-pub loads : {file : List ℕ} {o : Outline} {g : Diagram} → foundOf file ≡ Found.Diagram o → g ≡ diagramOf file o → Loaded file g
+pub loads : {file : List ℕ} {o : Outline} {g : Diagram} → foundOf file ≡ Reading.Found o → g ≡ diagramOf file o → Loaded file g
 loads e is = record { outline = _; found = e; is = is }
 
 -- ---- the single test
@@ -55,11 +57,11 @@ module _ (file : List ℕ) (g : Diagram) (condition state : ℕ) where
   unfolding singleJudged
   tested-eleven l = rw (le-leb _ _ l)
 
-  pub tested-twelve : condition < totalOf file g → stateCount g ≤ state → singleJudged file g condition state ≡ Single.Refused 12 0
+  pub tested-twelve : condition < totalOf file g → g .states ≤ state → singleJudged file g condition state ≡ Single.Refused 12 0
   unfolding singleJudged
   tested-twelve l m = rw (lt-leb _ _ l, le-leb _ _ m)
 
-  tested-whole : condition < totalOf file g → state < stateCount g → {b : Bool}
+  tested-whole : condition < totalOf file g → state < g .states → {b : Bool}
       → b ≡ conditionHolds file g (conditionAt file g condition) (stateAt g state)
       → singleJudged file g condition state ≡ cond b Single.Holds Single.Fails
   unfolding singleJudged
@@ -74,8 +76,8 @@ pub record Searched (file : List ℕ) (g : Diagram) (number : ℕ) : Type 0 wher
 module _ (file : List ℕ) (g : Diagram) where
   -- n states are passed, in each of which the test holds; `state` is the next, as long as there is one
   pub record StatesPassed (test : List ℤ → Bool) (state : List ℤ) (n : ℕ) : Type 0 where
-    pub passed : n ≤ stateCount g
-    pub here : n < stateCount g → state ≡ stateAt g n
+    pub passed : n ≤ g .states
+    pub here : n < g .states → state ≡ stateAt g n
     pub held : (k : ℕ) → k < n → test (stateAt g k) ≡ true
 
   -- the search was left at state n, the first that breaks the condition
@@ -88,7 +90,7 @@ module _ (file : List ℕ) (g : Diagram) (r : Loaded file g) where
   unfolding stateAt
   pass-begin = record { passed = omega arith; here = λ l. sym (first-state (promised file g r .ranges)); held = λ k l. absurd (omega arith) }
 
-  module _ {n : ℕ} (l : n < stateCount g) where
+  module _ {n : ℕ} (l : n < g .states) where
     pub at-within : State g (stateAt g n)
     at-within = state-numbered file g r n l .0
 
@@ -100,11 +102,11 @@ module _ (file : List ℕ) (g : Diagram) (r : Loaded file g) where
       pass-here f = rw (p .here l) at f
 
       pub pass-more : test state ≡ true → {after : List ℤ} → after ≡ advanceOf (g .low) (g .high) state → StatesPassed file g test after (n + 1)
-      unfolding stateCount stateAt
+      unfolding stateAt
       pass-more f e =
           record {
             passed = omega arith;
-            here = λ k. e ∙ rw (p .here l) (advance-next (promised file g r .ranges) n k);
+            here = λ k. e ∙ rw (p .here l) (advance-next (promised file g r .ranges) n (rw (promised file g r .counted) at k));
             held = below-more _ n (p .held) (pass-here f);
           }
 
@@ -120,10 +122,6 @@ module _ {file : List ℕ} {g : Diagram} {total : ℕ} (h : Ready file g total) 
   keeps : Promise file g
   keeps = promised file g (h .loaded)
 
-  pub states-are : g .states ≡ stateCount g
-  unfolding stateCount
-  states-are = keeps .counted
-
   pub states-small : g .states ≤ 1048576
   states-small = keeps .states .1
 
@@ -135,15 +133,11 @@ module _ {file : List ℕ} {g : Diagram} {total : ℕ} (h : Ready file g total) 
   tests-small l = mul-le-mul (le-trans l total-small) states-small
 
   pub broke-small : {c : Condition} {n : ℕ} → Breaks file g c n → n ≤ 1048576
-  broke-small b = omega (arith, b .state, states-are, states-small)
-
-  counted-below : {n : ℕ} → n < g .states → n < stateCount g
-  counted-below l = rw (← states-are) l
+  broke-small b = omega (arith, b .state, states-small)
 
   -- ---- the state of a number
   pub state-asks : {n : ℕ} → n < g .states → Ranges (g .low) (g .high) × (n < countOf (g .low) (g .high))
-  unfolding stateCount
-  state-asks l = (keeps .ranges, counted-below l)
+  state-asks l = (keeps .ranges, rw (← (keeps .counted)) l)
 
   state-is : (n : ℕ) {state : List ℤ} → state ≡ stateOf (g .low) (g .high) n → state ≡ stateAt g n
   unfolding stateAt
@@ -176,29 +170,28 @@ module _ {file : List ℕ} {g : Diagram} {total : ℕ} (h : Ready file g total) 
       -- one test
       module _ {n : ℕ} (l : n < g .states) {state : List ℤ} (e : state ≡ stateOf (g .low) (g .high) n) where
         pub single-asks : Within (g .low) (g .high) state × TestFits (g .low) (g .high) file test
-        single-asks = (rw (state-is n e) (at-within file g (h .loaded) (counted-below l)), test-asked)
+        single-asks = (rw (state-is n e) (at-within file g (h .loaded) l), test-asked)
 
         pub single-answers : {b : Bool} → b ≡ passesOf (g .low) (g .high) file test state → singleJudged file g number n ≡ cond b Single.Holds Single.Fails
         single-answers f =
-            tested-whole file g number n (rw (← (h .total-is)) below) (counted-below l) (rw (state-is n e) at (f ∙ passes-is state))
+            tested-whole file g number n (rw (← (h .total-is)) below) l (rw (state-is n e) at (f ∙ passes-is state))
 
       -- one test after the other
       module _ {state : List ℤ} {n : ℕ} (p : StatesPassed file g (holdsAt number) state n) (l : n < g .states) where
         pub passed-asks : Within (g .low) (g .high) state × TestFits (g .low) (g .high) file test
-        passed-asks = (pass-within file g (h .loaded) (counted-below l) p, test-asked)
+        passed-asks = (pass-within file g (h .loaded) l p, test-asked)
 
         pub advance-asks : (g .vars ≤ 12) × Idle (g .vars) (g .low) (g .high) state
         advance-asks = (keeps .variables .1, keeps .idle state (passed-asks .0))
 
         pub passed-more : passesOf (g .low) (g .high) file test state ≡ true → {after : List ℤ} → after ≡ advanceOf (g .low) (g .high) state
             → StatesPassed file g (holdsAt number) after (n + 1)
-        passed-more f = pass-more file g (h .loaded) (counted-below l) p (sym (passes-is state) ∙ f)
+        passed-more f = pass-more file g (h .loaded) l p (sym (passes-is state) ∙ f)
 
         pub passed-broke : passesOf (g .low) (g .high) file test state ≡ false → Broke file g number state n
         passed-broke f =
-            let k = counted-below l in
-            let fails = pass-here file g (h .loaded) k p (sym (passes-is state) ∙ f) in
-            (p .here k, record { state = k; held = p .held; fails = fails })
+            let fails = pass-here file g (h .loaded) l p (sym (passes-is state) ∙ f) in
+            (p .here l, record { state = l; held = p .held; fails = fails })
 
       -- skipping by boxes
       pub skip-asks : TestFits (g .low) (g .high) file test × (Ranges (g .low) (g .high) × (countOf (g .low) (g .high) ≤ 1048576))
@@ -207,20 +200,20 @@ module _ {file : List ℕ} {g : Diagram} {total : ℕ} (h : Ready file g total) 
       pub passed-skip : {state : List ℤ} {n : ℕ} → StatesPassed file g (holdsAt number) state n → (budget : ℕ) {found : Skipped}
           → found ≡ skipOf file (searchOf g test) (g .states) (skipTo state n) budget
           → StatesPassed file g (holdsAt number) (found .state) (found .number) × (n ≤ found .number)
-      unfolding stateCount stateAt
+      unfolding stateAt
       passed-skip {state} {n} p budget {found} e =
           let long = keeps .long in
           let from : Passed file (searchOf g test) test-asked long (g .states) (skipTo state n) =
           record {
-            most = omega (arith, p .passed, states-are);
-            here = λ l. p .here (omega (arith, l, states-are));
+            most = p .passed;
+            here = p .here;
             held = λ k l. passes-is _ ∙ p .held k l;
           } in
           let r = skipped file (searchOf g test) test-asked long (keeps .ranges) (keeps .counted) from budget in
           rw e (
             record {
-              passed = omega (arith, r .0 .most, states-are);
-              here = λ l. r .0 .here (omega (arith, l, states-are));
+              passed = r .0 .most;
+              here = r .0 .here;
               held = λ k l. sym (passes-is _) ∙ r .0 .held k l;
             },
             r .1,
@@ -233,16 +226,13 @@ module _ {file : List ℕ} {g : Diagram} {total : ℕ} (h : Ready file g total) 
     searched-more l p z =
         record {
           passed = omega (arith, l, h .total-is);
-          held = below-more _ number (s .held) (true-at file g (conditionAt file g number) (λ k j. p .held k (omega (arith, j, z, states-are))));
+          held = below-more _ number (s .held) (true-at file g (conditionAt file g number) (λ k j. p .held k (omega (arith, j, z))));
         }
 
     pub searched-broke : number < total → {c : Condition} → c ≡ conditionAt file g number → {state : List ℤ} {n : ℕ} → Broke file g number state n
         → {tests : ℕ} → tests ≡ number * g .states + n + 1 → namedOf c number state tests ≡ judgedOf file g
-    searched-broke l {c} at {state} {n} b {tests} e =
-        let counted : tests ≡ number * stateCount g + n + 1 = e ∙ ap (λ (k : ℕ). number * k + n + 1) states-are in
-        rw (at, b .0, counted) (sym (judged-broken file g number (rw (← (h .total-is)) l) (s .held) n (b .1)))
+    searched-broke l at {n = n} b e =
+        rw (at, b .0, e) (sym (judged-broken file g number (rw (← (h .total-is)) l) (s .held) n (b .1)))
 
     pub searched-end : total ≤ number → {tests : ℕ} → tests ≡ total * g .states → unnamedOf 0 total tests ≡ judgedOf file g
-    searched-end l {tests} e =
-        let counted : tests ≡ total * stateCount g = e ∙ ap (λ (k : ℕ). total * k) states-are in
-        rw (counted, h .total-is) (sym (judged-whole file g (λ k j. s .held k (omega (arith, j, l, h .total-is)))))
+    searched-end l e = rw (e, h .total-is) (sym (judged-whole file g (λ k j. s .held k (omega (arith, j, l, h .total-is)))))

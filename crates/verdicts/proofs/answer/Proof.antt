@@ -1,7 +1,7 @@
 -- `verdicts::answer` meets its contract, by the case that reading answers.
 -- Assumes nothing.
 use mathlib.Core.Path.{sym, _∙_}
-use Rattle.verdicts.specs.Verdict.{singleBy, singleOf}
+use Rattle.verdicts.specs.Verdict.{singleOf}
 use Rattle.verdicts.proofs.Steps.Verdict.{loads}
 use borrow.Author.Needs.{needs}
 use Rattle.verdicts.proofs.answer.Statement.{statement}
@@ -23,13 +23,13 @@ enum-known-found-2 : tie.Need-enum-known-found-2
 enum-known-found-2 c = search needs
 
 returns : tie.Need-returns
-unfolding singleOf singleBy
+unfolding singleOf
 returns c =
     c .tested .ensures
     ∙ rw (sym (c .before .before .before .before .before .find .ensures) ∙ c .before .before .before .found .given .1, c .before .diagram-of .ensures)
 
 returns-2 : tie.Need-returns-2
-unfolding singleOf singleBy
+unfolding singleOf
 returns-2 c = rw (sym (c .before .before .before .find .ensures) ∙ c .before .found2 .given .1)
 
 pub answer-spec : {M : Type 1} → statement M

@@ -16,8 +16,7 @@ use Rattle.testing.specs.Testing.{passesOf}
 use Rattle.testing.proofs.Laws.Testing.{passes-vacuous, passes-concluded}
 use Rattle.verdicts.proofs.Steps.Verdict.{Ready, Searched, states-small, total-small, tests-small, test-asks, named-asks}
 use Rattle.verdicts.proofs.Steps.Verdict.{StatesPassed, passed-begin, passed-asks, advance-asks, passed-more, passed-broke, test-asked}
-use Rattle.verdicts.proofs.Steps.Verdict.{skip-asks, passed-skip}
-use Rattle.verdicts.proofs.Steps.Verdict.{Broke, broke-small, searched-more, searched-broke, searched-end}
+use Rattle.verdicts.proofs.Steps.Verdict.{skip-asks, passed-skip, Broke, broke-small, searched-more, searched-broke, searched-end}
 use Rattle.verdicts.proofs.first_break.Statement.{statement}
 use Rattle.verdicts.proofs.first_break.Tie as tie
 

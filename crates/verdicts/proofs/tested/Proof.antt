@@ -5,8 +5,7 @@ use mathlib.Core.Bool.{cond}
 use native.Mathlib.Omega.{arith}
 use Rattle.verdicts.specs.Verdict.{singleJudged}
 use Rattle.verdicts.specs.declared.Single.{Single}
-use Rattle.verdicts.proofs.Steps.Verdict.{small, spans-serve, Ready, states-are, test-asks, state-asks}
-use Rattle.verdicts.proofs.Steps.Verdict.{single-asks, single-answers, tested-eleven, tested-twelve}
+use Rattle.verdicts.proofs.Steps.Verdict.{small, spans-serve, Ready, test-asks, state-asks, single-asks, single-answers, tested-eleven, tested-twelve}
 use borrow.Author.Needs.{needs}
 use Rattle.verdicts.proofs.tested.Statement.{statement}
 use Rattle.verdicts.proofs.tested.Tie as tie
@@ -36,7 +35,7 @@ returns-2 : tie.Need-returns-2
 returns-2 c =
     sym
     (tested-twelve _ _ _ _ (omega (arith, c .before .before .before .total .ensures, c .before .before .if1 .left))
-    (omega (arith, states-are (ready (c .before .before .before)), c .if2 .taken)))
+    (omega (arith, c .if2 .taken)))
 
 condition-at-requires : tie.Need-condition-at-requires
 condition-at-requires c κs =

@@ -4,7 +4,7 @@ use borrow.Author.Needs.{needs}
 use mathlib.Core.Path.{sym, _∙_}
 use native.Mathlib.Omega.{arith}
 use Rattle.diagrams.proofs.Laws.Diagram.{find-refuses}
-use Rattle.verdicts.specs.Verdict.{verdictBy, verdictOf}
+use Rattle.verdicts.specs.Verdict.{verdictOf}
 use Rattle.verdicts.proofs.Steps.Verdict.{loads}
 use Rattle.verdicts.proofs.verdict.Statement.{statement}
 use Rattle.verdicts.proofs.verdict.Tie as tie
@@ -31,13 +31,13 @@ unnamed-requires : tie.Need-unnamed-requires
 unnamed-requires c κs = search needs
 
 returns : tie.Need-returns
-unfolding verdictOf verdictBy
+unfolding verdictOf
 returns c =
     c .judge .ensures
     ∙ rw (sym (c .before .before .before .before .before .find .ensures) ∙ c .before .before .before .found .given .1, c .before .diagram-of .ensures)
 
 returns-2 : tie.Need-returns-2
-unfolding verdictOf verdictBy
+unfolding verdictOf
 returns-2 c = c .unnamed .ensures ∙ rw (sym (c .before .before .before .before .find .ensures) ∙ c .before .before .found2 .given .1)
 
 pub verdict-spec : {M : Type 1} → statement M

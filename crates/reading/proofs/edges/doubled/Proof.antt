@@ -7,7 +7,8 @@ use lib.ListN.{length}
 use Rattle.sections.specs.Section.{edgeAt}
 use Rattle.truths.specs.Search.{any}
 use Rattle.truths.proofs.Laws.Any.{any-none, any-hit, any-next}
-use Rattle.reading.specs.Edge.{doubleFrom, doubledOf}
+use Rattle.shapes.specs.Edge.{doubleFrom}
+use Rattle.reading.specs.Edge.{doubledOf}
 use Rattle.reading.proofs.edges.doubled.Statement.{statement}
 use Rattle.reading.proofs.edges.doubled.Tie as tie
 

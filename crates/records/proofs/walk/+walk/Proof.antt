@@ -3,8 +3,7 @@
 use mathlib.Core.Path.{_≡_, refl, _∙_}
 use native.Mathlib.Omega.{arith}
 use borrow.Author.Needs.{needs}
-use Rattle.records.proofs.Steps.Walk.{operands-ends, operands-refused, operands-none}
-use Rattle.records.proofs.Steps.Walk.{walk-short, walk-unfit, walk-field, walk-deep, walk-step}
+use Rattle.records.proofs.Steps.Walk.{operands-ends, operands-refused, operands-none, walk-short, walk-unfit, walk-field, walk-deep, walk-step}
 use Rattle.records.specs.Walk.{operandsOf, walkOf}
 use Prim.Native.Nat.{ℕ, _+_, _-_, _<_}
 use borrow.Fn.Kinds.{In}

@@ -1,7 +1,8 @@
--- `reading::edges::double_from` meets its contract.
-use Rattle.reading.specs.Edge.{doubleFrom}
-use Rattle.reading.proofs.edges.double_from.Statement.{statement}
-use Rattle.reading.proofs.edges.double_from.Tie as tie
+-- `shapes::double_from` meets its contract: each return is a case of `doubleFrom`.
+-- Assumes nothing.
+use Rattle.shapes.specs.Edge.{doubleFrom}
+use Rattle.shapes.proofs.double_from.Statement.{statement}
+use Rattle.shapes.proofs.double_from.Tie as tie
 
 returns : tie.Need-returns
 unfolding doubleFrom

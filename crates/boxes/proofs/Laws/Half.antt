@@ -20,7 +20,8 @@ use lib.IntN.{ℤ, pos}
 use lib.ListN.{length, getD, set}
 use lib.Signed.{ltZ, _≤ℤ_, _<ℤ_, ≤ℤ-refl}
 use Rattle.integers.specs.Radix.{at, offsetOf}
-use Rattle.integers.proofs.Laws.Parts.{ints, by-test, le-or-lt, ≤ℤ-trans, ≤ℤ-antisym}
+use Rattle.truths.proofs.Laws.Truth.{by-test}
+use Rattle.integers.proofs.Laws.Parts.{ints, le-or-lt, ≤ℤ-trans, ≤ℤ-antisym}
 use Rattle.integers.proofs.Laws.Radix.{at-above, at-below, offset-less, above-next}
 use Rattle.states.specs.State.{Within}
 use Rattle.states.specs.Ranges.{Ranges}

@@ -16,7 +16,8 @@ use mir.Val.{SFits}
 use Rattle.integers.specs.Tests.{eqZ}
 use Rattle.integers.specs.Interval.{bounds}
 use Rattle.integers.specs.Inside.{In, Bounded}
-use Rattle.integers.proofs.Laws.Parts.{by-test, ints, within-fits}
+use Rattle.truths.proofs.Laws.Truth.{by-test}
+use Rattle.integers.proofs.Laws.Parts.{ints, within-fits}
 use Rattle.integers.proofs.Laws.Equality.{eqZ-true, eqZ-refl}
 use Rattle.intervals.specs.Interval.{interval, combine as combineOf}
 use Rattle.intervals.proofs.Laws.Combine.{combine-in}

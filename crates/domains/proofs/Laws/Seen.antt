@@ -16,8 +16,7 @@ use Prim.Native.Nat.{ℕ}
 use lib.Dec.{eqb}
 use borrow.Author.Tests.{eqb-true}
 use Rattle.truths.specs.Truth.{implies}
-use Rattle.truths.proofs.Laws.Truth.{implies-or}
-use Rattle.integers.proofs.Laws.Parts.{by-test}
+use Rattle.truths.proofs.Laws.Truth.{implies-or, by-test}
 use Rattle.expressions.specs.Expression.{connectOf}
 use Rattle.expressions.proofs.Laws.Connect.{connect-by}
 use Rattle.domains.specs.declared.seen.Seen.{Seen}

@@ -9,7 +9,7 @@ use lib.Dec.{eqb}
 use lib.IntN.{ℤ, pos}
 use lib.Signed.{ltZ, leZ}
 use Rattle.integers.specs.Tests.{eqZ}
-use Rattle.integers.proofs.Laws.Parts.{by-test}
+use Rattle.truths.proofs.Laws.Truth.{by-test}
 use Rattle.expressions.specs.Expression.{indicatorOf, connectOf, compareOf}
 
 pub indicator-true : indicatorOf true ≡ pos 1

@@ -14,7 +14,8 @@ use lib.Seq.{getD-drop, drop-drop}
 use lib.Signed.{≤ℤ-refl}
 use Rattle.integers.specs.declared.Interval.{Interval}
 use Rattle.integers.specs.Inside.{In}
-use Rattle.integers.proofs.Laws.Parts.{by-test, ints}
+use Rattle.truths.proofs.Laws.Truth.{by-test}
+use Rattle.integers.proofs.Laws.Parts.{ints}
 use Rattle.integers.proofs.Laws.Interval.{in-bounds}
 use Rattle.records.specs.Form.{Form}
 use Rattle.records.specs.Form.Form.{Constant, Variable, Arithmetic, Indicator}

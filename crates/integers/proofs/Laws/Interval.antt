@@ -10,7 +10,8 @@ use lib.Signed.{leZ, _≤ℤ_}
 use Rattle.integers.specs.declared.Interval.{Interval}
 use Rattle.integers.specs.Interval.{minZ, maxZ, around, overEnds, between, bounds, inBounds}
 use Rattle.integers.specs.Inside.{In, Bounded}
-use Rattle.integers.proofs.Laws.Parts.{ints, ≤ℤ-trans, by-test, ≤-parts, add-parts, sub-parts, mul-parts}
+use Rattle.truths.proofs.Laws.Truth.{by-test}
+use Rattle.integers.proofs.Laws.Parts.{ints, ≤ℤ-trans, ≤-parts, add-parts, sub-parts, mul-parts}
 
 -- ---- the lesser and the greater of two
 

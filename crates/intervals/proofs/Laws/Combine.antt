@@ -13,7 +13,7 @@ use lib.IntN.{ℤ, _+ℤ_, _-ℤ_, _*ℤ_}
 use Rattle.integers.specs.declared.Interval.{Interval}
 use Rattle.integers.specs.Interval.{overEnds}
 use Rattle.integers.specs.Inside.{In}
-use Rattle.integers.proofs.Laws.Parts.{by-test}
+use Rattle.truths.proofs.Laws.Truth.{by-test}
 use Rattle.integers.proofs.Laws.Interval.{sum-in, difference-in, product-in}
 use Rattle.records.specs.Form.Form.{Constant, Variable, Arithmetic}
 use Rattle.records.specs.Record.{kindAt, fieldA, valueB, valueC}

@@ -13,7 +13,7 @@ use lib.ListN.{length}
 use lib.Dec.{eqb}
 use Rattle.integers.specs.declared.Interval.{Interval}
 use Rattle.integers.specs.Inside.{Bounded}
-use Rattle.integers.proofs.Laws.Parts.{by-test}
+use Rattle.truths.proofs.Laws.Truth.{by-test}
 use Rattle.integers.proofs.Laws.Interval.{bounded-test}
 use Rattle.records.specs.Form.Form.{Variable}
 use Rattle.records.specs.Record.{kindAt, fieldA, valueB, valueC}

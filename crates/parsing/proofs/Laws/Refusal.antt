@@ -1,7 +1,7 @@
 -- A refusal of parsing has a number of 2 or more, and its place is a record of the file or the record count, so at most 4,096.
---     refused, by-test, refuses-more     answers of any type, by how they are made
---     walk-then                          what follows a part
---     parse-refuses                      the whole file
+--     refused, test-refuses, refuses-more     answers of any type, by how they are made
+--     walk-then                               what follows a part
+--     parse-refuses                           the whole file
 -- Each definition of parsing is gone through as it stands: a test has two sides, and what follows a part keeps the part's refusal.
 -- Assumes nothing.
 use mathlib.Core.Path.{_≡_, refl}
@@ -43,9 +43,9 @@ module _ {A : Type 0} {refuse : ℕ → ℕ → A} {most : ℕ} where
   pub refused : Refusing refuse → (n p : ℕ) → 2 ≤ n → p ≤ most → Refuses refuse most (refuse n p)
   refused r n p from within number place e = let z = r .same n p number place e in record { from = omega arith; within = omega arith }
 
-  pub by-test : (b : Bool) {x y : A} → (b ≡ true → Refuses refuse most x) → (b ≡ false → Refuses refuse most y) → Refuses refuse most (cond b x y)
-  by-test true h k = h refl
-  by-test false h k = k refl
+  pub test-refuses : (b : Bool) {x y : A} → (b ≡ true → Refuses refuse most x) → (b ≡ false → Refuses refuse most y) → Refuses refuse most (cond b x y)
+  test-refuses true h k = h refl
+  test-refuses false h k = k refl
 
 -- a refusal of one type, handed on as one of another
 pub handed-on : {A B : Type 0} {refuse : ℕ → ℕ → A} {hand-on : ℕ → ℕ → B} {most n p : ℕ} {x : A} → Refusing hand-on → x ≡ refuse n p
@@ -97,11 +97,11 @@ module _ (file : List ℕ) where
       section-then (nodesOf file vars ranks most at) (right (λ n p. refused-nodes file n p vars ranks most at l))
       (λ n x e.
       let m = nodes-through _ _ _ _ _ _ _ e (λ i. i ≤ count) (λ i y k q a. node-bound file vars ranks i y q .1) l in
-      by-test (leb (phasesOr file property 1) n)
+      test-refuses (leb (phasesOr file property 1) n)
       (λ t.
       section-then (edgesOf file transitions n x) (right (λ a b. refused-edges file a b transitions n x m))
       (λ k y q.
-      by-test (eqb y count) (λ u number place f. let z : _≡_ {A = ℕ} 0 1 = cc in absurd (omega arith))
+      test-refuses (eqb y count) (λ u number place f. let z : _≡_ {A = ℕ} 0 1 = cc in absurd (omega arith))
       (λ u. refused reading 3 y (omega arith) (edges-through _ _ _ _ _ _ q (λ i. i ≤ count) (past 0x07) m))))
       (λ t. refused reading 3 x (omega arith) m))
 
@@ -109,10 +109,10 @@ module _ (file : List ℕ) where
   unfolding propertyParsed
   property-refuses vars transition transitions at l =
       let n = expressionsOf file at in
-      by-test (kindIs file 0x05 at)
+      test-refuses (kindIs file 0x05 at)
       (λ k.
       let m = past 0x05 at k l in
-      by-test (propertyFields file at)
+      test-refuses (propertyFields file at)
       (λ f.
       walk-then (inSequence (truthOf file vars) n (at + 1))
       (right (λ a b. refused-sequence (truthOf file vars) count a b _ (walk-ends vars) (refused-walk file vars a b 16 truth) n (at + 1) m))
@@ -133,9 +133,9 @@ module _ (file : List ℕ) where
   start-refuses : (vars at : ℕ) → at ≤ count → Right (startParsed file vars at)
   unfolding startParsed
   start-refuses vars at l =
-      by-test (leb 1 vars && kindIs file 0x02 at)
+      test-refuses (leb 1 vars && kindIs file 0x02 at)
       (λ k.
-      by-test (noFields file at)
+      test-refuses (noFields file at)
       (λ f.
       let m = past 0x02 at (and-eq-true-iff (leb 1 vars) (kindIs file 0x02 at) .0 k .1) l in
       walk-then (truthOf file vars (at + 1)) (right (λ n p. refused-walk file vars n p 16 truth (at + 1) m))
@@ -147,7 +147,7 @@ module _ (file : List ℕ) where
   unfolding parsedOf
   parse-refuses =
       let whole = eqb (length file % 8) 0 in
-      by-test (whole && leb (length file) 32768)
+      test-refuses (whole && leb (length file) 32768)
       (λ t.
       let small : length file ≤ 32768 = leb-true _ _ (and-eq-true-iff whole (leb (length file) 32768) .0 t .1) in
       refuses-more (omega arith)

@@ -14,7 +14,8 @@ use lib.IntN.{ℤ, pos}
 use lib.ListN.{length, getD}
 use lib.Signed.{_≤ℤ_, ≤ℤ-refl}
 use Rattle.truths.proofs.Laws.Table.{length-table, table-at, table-beyond}
-use Rattle.integers.proofs.Laws.Parts.{by-test, ≤ℤ-antisym}
+use Rattle.truths.proofs.Laws.Truth.{by-test}
+use Rattle.integers.proofs.Laws.Parts.{≤ℤ-antisym}
 use Rattle.records.specs.Record.{value, valueB, valueC}
 use Rattle.states.specs.Ranges.{Ranges, Idle}
 use Rattle.states.proofs.Laws.State.{at-ranges, within-at, at-idle}

@@ -12,7 +12,7 @@ use Rattle.records.specs.declared.walk.Walked.{Walked}
 use Rattle.shapes.specs.declared.Outline.{Outline}
 use Rattle.parsing.specs.Outline.{parsedOf}
 use Rattle.parsing.specs.Refusal.{Refuses}
-use Rattle.parsing.proofs.Laws.Refusal.{walked, reading, refused, by-test, handed-on, walk-then, walked-ends, parse-refuses}
+use Rattle.parsing.proofs.Laws.Refusal.{walked, reading, refused, test-refuses, handed-on, walk-then, walked-ends, parse-refuses}
 use Rattle.parsing.proofs.Laws.Outline.{Parses, parses}
 use Rattle.shapes.specs.declared.Reading.{Reading}
 use Rattle.shapes.specs.Reading.{andFound}
@@ -37,7 +37,7 @@ module _ {most : ℕ} where
   states-refuses file zero at product l = walked-ends
   states-refuses file (suc left) at product l =
       let next = product * sizeAt file at in
-      by-test (leb next 1048576) (λ h. states-refuses file left (at + 1) next (omega arith)) (λ h. refused walked 7 at (omega arith) (omega arith))
+      test-refuses (leb next 1048576) (λ h. states-refuses file left (at + 1) next (omega arith)) (λ h. refused walked 7 at (omega arith) (omega arith))
 
 -- ---- the stages
 abbrev Right : Reading → Type 0
@@ -56,7 +56,7 @@ module _ (file : List ℕ) (o : Outline) (p : Parses file o) where
       let nodes = fits file o p .nodes-most in
       let p = propertyAt file (o .property) in
       let few = from-most (claimAt file (o .property)) in
-      by-test (p .doubles) (λ c. row-refuses 10 (omega arith) (doubledOf file o) (o .nodes - p .from) (p .from) (omega arith)) (λ c. walked-ends)
+      test-refuses (p .doubles) (λ c. row-refuses 10 (omega arith) (doubledOf file o) (o .nodes - p .from) (p .from) (omega arith)) (λ c. walked-ends)
 
   stages-refuse : Right (stagesRead file o)
   unfolding stagesRead rulesOf

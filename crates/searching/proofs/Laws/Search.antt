@@ -16,7 +16,7 @@ use lib.Dec.{eqb, leb}
 use lib.IntN.{ℤ, pos}
 use lib.ListN.{length, getD}
 use lib.Signed.{_<ℤ_}
-use Rattle.integers.proofs.Laws.Parts.{by-test}
+use Rattle.truths.proofs.Laws.Truth.{by-test}
 use Rattle.states.specs.Ranges.{Ranges}
 use Rattle.states.specs.Number.{countOf, stateOf, numberOf}
 use Rattle.states.proofs.Laws.Number.{number-below, state-within, state-of-number, number-of-state}

@@ -19,7 +19,8 @@ use lib.Arith.{digits-lt, digits-div, digits-mod, lt-one}
 use lib.IntN.{ℤ, pos, _+ℤ_}
 use lib.Signed.{leZ, ltZ, _≤ℤ_, ≤ℤ-refl}
 use Rattle.integers.specs.Radix.{at, offsetOf}
-use Rattle.integers.proofs.Laws.Parts.{ints, add-parts, by-test}
+use Rattle.truths.proofs.Laws.Truth.{by-test}
+use Rattle.integers.proofs.Laws.Parts.{ints, add-parts}
 use Rattle.integers.proofs.Laws.Radix.{at-above, at-below, offset-at, at-offset, offset-self, offset-next, offset-rises}
 use Rattle.states.specs.State.{Within}
 use Rattle.states.specs.Ranges.{Ranges}

@@ -13,7 +13,7 @@ use lib.ListN.{length, getD, set}
 use lib.IntN.{ℤ, pos}
 use lib.Signed.{_≤ℤ_}
 use Rattle.integers.specs.Inside.{In}
-use Rattle.integers.proofs.Laws.Parts.{by-test}
+use Rattle.truths.proofs.Laws.Truth.{by-test}
 use Rattle.records.specs.Record.{kindIs}
 use Rattle.states.specs.State.{Within}
 use Rattle.states.specs.State.Within.{none as no-values, more as more-values}

@@ -1,5 +1,6 @@
 -- Laws of Bool, as far as mathlib.Core.Bool lacks them.
 --     passes-or-fails                 a truth is true or not
+--     by-test                         what is so in either case is so
 --     is-true, so-true, is-false, so-false     `T b` and `b ≡ true` say the same, `T (not b)` and `b ≡ false` too
 --     same-truth                      truths that imply each other are equal
 --     implies-true, implies-false     an implication, by its premise
@@ -14,6 +15,10 @@ use mathlib.Core.Logic.{_⊎_, inl, inr}
 use mathlib.Core.Bool.{Bool, true, false, not, _&&_, _||_, false≢true}
 use lib.Dec.{T}
 use Rattle.truths.specs.Truth.{implies}
+
+pub by-test {ℓ} : (t : Bool) (P : Bool → Type ℓ) → (t ≡ true → P true) → (t ≡ false → P false) → P t
+by-test true P y n = y refl
+by-test false P y n = n refl
 
 pub passes-or-fails : (b : Bool) → T b ⊎ T (not b)
 passes-or-fails true = inl tt

@@ -37,7 +37,8 @@ connectOf kind p q = cond (eqb kind 0x23) (p && q) (cond (eqb kind 0x24) (p || q
 unfoldable pub compareOf : ℕ → ℤ → ℤ → Bool
 compareOf kind x y = cond (eqb kind 0x27) (eqZ x y) (cond (eqb kind 0x28) (ltZ x y) (leZ x y))
 
--- the number that begins a part, by the kind of its record; N and T say what the parts of its operands are worth, one level further in
+-- the number that begins a part, by the kind of its record, one of a number's: a readable file has no other where a number is asked. N and T say what the
+-- parts of its operands are worth, one level further in
 unfoldable pub numberBy : ℕ → (List ℕ → ℤ) → (List ℕ → Bool) → ℕ → List ℕ → List ℤ → ℤ
 numberBy levels N T kind part state =
     cond (eqb kind 0x10) (valueB part 0)
@@ -45,7 +46,7 @@ numberBy levels N T kind part state =
     (cond (eqb kind 0x15) (indicatorOf (T (firstOperand part)))
     (combine kind (N (firstOperand part)) (N (secondOperand levels part)))))
 
--- and the truth: "20 true, 21 false, 22 not"
+-- and the truth, by a truth's kind: "20 true, 21 false, 22 not"
 unfoldable pub truthBy : ℕ → (List ℕ → ℤ) → (List ℕ → Bool) → ℕ → List ℕ → Bool
 truthBy levels N T kind part =
     cond (leb kind 0x21) (eqb kind 0x20)

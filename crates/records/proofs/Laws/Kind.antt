@@ -41,18 +41,28 @@ module _ {A : Type 0} where
   under {lo} hi {kind} hit p e = simp (lt-leb lo kind p) e
 
   -- two ranges, one behind the other, that say the same are one
-  joined : (lo mid hi kind : ℕ) (hit miss : A) → lo ≤ mid → mid < hi
-      → within lo mid kind hit (within (suc mid) hi kind hit miss) ≡ within lo hi kind hit miss
-  joined lo mid hi kind hit miss l m =
-      by-test (leb kind mid) (λ _. within lo mid kind hit (within (suc mid) hi kind hit miss) ≡ within lo hi kind hit miss)
-      (λ b. by-test (leb lo kind) (λ _. within lo mid kind hit (within (suc mid) hi kind hit miss) ≡ within lo hi kind hit miss)
-      (λ a. let x = leb-true _ _ a in let y = leb-true _ _ b in hits _ x y ∙ sym (hits _ x (omega arith)))
-      (λ a. let x = leb-false _ _ a in under _ _ x (under _ _ (omega arith) refl) ∙ sym (under _ _ x refl)))
-      (λ b. let y = leb-false _ _ b in
-      over _ _ y
-      (by-test (leb kind hi) (λ _. within (suc mid) hi kind hit miss ≡ within lo hi kind hit miss)
-      (λ c. let z = leb-true _ _ c in hits _ (omega arith) z ∙ sym (hits _ (omega arith) z))
-      (λ c. let z = leb-false _ _ c in over _ _ z refl ∙ sym (over _ _ z refl))))
+  module _ (lo mid hi kind : ℕ) (hit miss : A) (l : lo ≤ mid) (m : mid < hi) where
+    abbrev upper : A
+    upper = within (suc mid) hi kind hit miss
+
+    abbrev whole : A
+    whole = within lo hi kind hit miss
+
+    joined-lower : leb kind mid ≡ true → within lo mid kind hit upper ≡ whole
+    joined-lower b =
+        let y = leb-true kind mid b in
+        by-test (leb lo kind) (λ _. within lo mid kind hit upper ≡ whole) (λ a. let x = leb-true lo kind a in hits _ x y ∙ sym (hits _ x (omega arith)))
+        (λ a. let x = leb-false lo kind a in under _ _ x (under _ _ (omega arith) refl) ∙ sym (under _ _ x refl))
+
+    joined-upper : leb kind mid ≡ false → within lo mid kind hit upper ≡ whole
+    joined-upper b =
+        let y = leb-false kind mid b in
+        over _ _ y
+        (by-test (leb kind hi) (λ _. upper ≡ whole) (λ c. let z = leb-true kind hi c in hits _ (omega arith) z ∙ sym (hits _ (omega arith) z))
+        (λ c. let z = leb-false kind hi c in over _ _ z refl ∙ sym (over _ _ z refl)))
+
+    joined : within lo mid kind hit upper ≡ whole
+    joined = by-test (leb kind mid) (λ _. within lo mid kind hit upper ≡ whole) joined-lower joined-upper
 
 -- the truths' ranges, which stand behind the numbers'
 abbrev truths : ℕ → Form

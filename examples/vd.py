@@ -601,7 +601,7 @@ def value(e, state):
 
 
 def interval(e, ranges):
-    """The interval of a number expression: least and greatest result over the operands' ends."""
+    """The interval of a number expression (C3)."""
     if e.kind == CONSTANT:
         return e.b, e.b
     if e.kind == VARIABLE:
@@ -625,18 +625,18 @@ def assigned(transition, state):
 
 MEANINGS = {
     0: "accepted",
-    1: "the report buffer is under 32 bytes",
-    2: "the file's length is not a multiple of 8, or is over 32,768",
-    3: "a record's kind does not fit its place, or the file ends early",
-    4: "a field has a value not allowed, or names something that the file lacks",
-    5: "a variable, transition, node, edge or nesting level is one past its limit",
-    6: "a transition assigns a variable again, or an edge is repeated",
+    1: "the report buffer has fewer than 32 bytes",
+    2: "the file is longer than 32,768 bytes, or not a whole number of records",
+    3: "a record has a kind that cannot stand there, or the file ends where a record must stand",
+    4: "a field has a value that its kind does not allow, or names nothing in the file",
+    5: "there is one too many of the variables, transitions, nodes, edges or levels",
+    6: "a transition has a second assignment for a variable, or an edge is there twice",
     7: "there are more than 1,048,576 states",
     8: "the interval of a number leaves -1,000,000..1,000,000",
-    9: "an edge breaks an edge rule, given the edges before it",
-    10: "a chain node lacks its double edge",
-    11: "in a single test the condition number is too large",
-    12: "in a single test the state number is too large",
+    9: "an edge is not allowed, by itself or with edges before it",
+    10: "a node of a chain has no double edge",
+    11: "there is no condition of that number",
+    12: "there is no state of that number",
     13: "start is broken: a starting state satisfies no node",
     14: "entry is broken: p does not imply some node",
     15: "cover is broken: a node does not imply its q",

@@ -3,7 +3,8 @@
 //! these functions is proved in Rattle; this crate only lends it slices. It needs little stack: 45 KiB at most, as measured, so a thread with 64 KiB is
 //! enough.
 //!
-//! A system with one variable in 0..2 that counts up, and the claim that it stays at most 2:
+//! C12.1 and the like are clauses of docs/SPECIFICATION.md, which the examples would see broken. A system with one variable in 0..2 that counts up,
+//! and the claim that it stays at most 2:
 //!
 //! ```
 //! use vd::Outcome;
@@ -20,7 +21,7 @@
 //!     file.extend([kind, a, b, 0, c, 0, 0, 0]);
 //! }
 //!
-//! // The step from 1 leads out of node 0.
+//! // C12.3, C13.3, C13.4: the step from 1 leads out of node 0.
 //! let verdict = vd::check(&file);
 //! match verdict.outcome() {
 //!     Outcome::Broken { number: 17, condition: 3, node: Some(0), transition: Some(0), state } => assert_eq!(state[0], 1),
@@ -28,10 +29,10 @@
 //! }
 //! assert_eq!(vd::single(&file, 3, 1), Ok(false));
 //!
-//! // The tests up to there: conditions 0 to 2 at all three states, condition 3 at states 0 and 1.
+//! // C12.7, the tests up to there: conditions 0 to 2 at all three states, condition 3 at states 0 and 1.
 //! assert_eq!(verdict.tests, 11);
 //!
-//! // With the node "at most 2" all four conditions are true.
+//! // C12.2: with the node "at most 2" all four conditions are true.
 //! let last = file.len() - 8;
 //! file[last + 2] = 2;
 //! let verdict = vd::check(&file);
@@ -44,7 +45,7 @@ use std::fmt;
 /// The bytes of a report.
 pub const REPORT: usize = 32;
 
-/// The check's result: the fields of the report, and the tests.
+/// C12.1, the check's answer: the fields of the report, and the tests.
 #[repr(C)]
 #[derive(Clone, Copy, Debug, PartialEq, Eq)]
 pub struct Verdict {
@@ -56,7 +57,7 @@ pub struct Verdict {
     pub transition: u8,
     /// The broken condition, the refusal's place, or for 0 how many conditions there are.
     pub at: u32,
-    /// The lowest-numbered state that breaks the condition; zeros beyond the file's variables and where no condition is named.
+    /// The lowest-numbered state that breaks the condition, zeros where it has no variable; without a condition all are zero.
     pub values: [i16; 12],
     /// How many tests of a condition at a state the check's definition makes, condition by condition, state by state: conditions times states for
     /// 0; up to the state named, with it, for a broken condition; 0 where no condition is tested.
@@ -105,7 +106,8 @@ pub fn check(file: &[u8]) -> Verdict {
     check_into(file, &mut [0; REPORT])
 }
 
-/// Checks a file, and writes the report to the first 32 bytes of the buffer. A shorter buffer stays as it is, and the number is 1.
+/// Checks a file, and writes the report to the first 32 bytes of the buffer. A shorter buffer stays as it is, and the number is 1: C10.1, C12.7,
+/// C14.1.
 ///
 /// ```
 /// let mut report = [0xff; vd::REPORT];
@@ -120,7 +122,7 @@ pub fn check_into(file: &[u8], report: &mut [u8]) -> Verdict {
     unsafe { vd_check(file.as_ptr(), file.len(), report.as_mut_ptr(), report.len()) }
 }
 
-/// Tests one condition at one state, by their numbers: whether it holds there.
+/// Tests one condition at one state, by their numbers: whether it holds there, or the refusal (C13.4).
 ///
 /// ```
 /// assert_eq!(vd::single(&[0; 7], 0, 0), Err(vd::Refusal { number: 2, place: 0 }));
@@ -217,16 +219,16 @@ impl std::error::Error for Refusal {}
 pub fn meaning(number: u8) -> &'static str {
     match number {
         0 => "accepted",
-        1 => "the report's buffer is under 32 bytes",
-        2 => "the file's length isn't a multiple of 8 or exceeds 32,768",
-        3 => "a record's kind doesn't fit its place, or the file ends early",
-        4 => "a field has a value not allowed, or names what the file lacks",
-        5 => "a variable, transition, node, edge or nesting level is one past its limit",
-        6 => "a transition assigns a variable again, or an edge is repeated",
+        1 => "the report buffer has fewer than 32 bytes",
+        2 => "the file is longer than 32,768 bytes, or not a whole number of records",
+        3 => "a record has a kind that cannot stand there, or the file ends where a record must stand",
+        4 => "a field has a value that its kind does not allow, or names nothing in the file",
+        5 => "there is one too many of the variables, transitions, nodes, edges or levels",
+        6 => "a transition has a second assignment for a variable, or an edge is there twice",
         7 => "there are more than 1,048,576 states",
-        8 => "a number's interval leaves -1,000,000..1,000,000",
-        9 => "an edge breaks an edge rule",
-        10 => "a chain's node lacks its double edge",
+        8 => "the interval of a number leaves -1,000,000..1,000,000",
+        9 => "an edge is not allowed, by itself or with edges before it",
+        10 => "a node of a chain has no double edge",
         11 => "there is no condition of that number",
         12 => "there is no state of that number",
         13 => "start",

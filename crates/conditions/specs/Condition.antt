@@ -9,45 +9,43 @@ use Rattle.conditions.specs.Edges.{isDouble}
 use Rattle.conditions.specs.declared.Condition.{Condition}
 use Rattle.conditions.specs.declared.Condition.the-variants.{Start, Entry, Cover, Range, Step, Enabling}
 
--- what f gives at the n numbers from `at` on, one list behind the other
+-- for C8.3: what f gives at the n numbers from `at` on, one list behind the other
 unfoldable pub each : {A : Type 0} → (ℕ → List A) → ℕ → ℕ → List A
 each f zero at = []
 each f (suc n) at = f at ++ each f n (at + 1)
 
--- of node n and transition t "range .., step", "and after the step of the node's double transition, enabling, of the node and that transition"
+-- for C8.4 to C8.6: the conditions of node n and transition t; only a chain has double edges
 unfoldable pub movesOf : List ℕ → Diagram → ℕ → ℕ → List Condition
 movesOf file g n t = Range n t ∷ Step n t ∷ cond (isDouble file g n t) (Enabling n t ∷ []) []
 
--- "start", or "entry"
+-- for C8.4 to C8.6: the first condition
 unfoldable pub openingOf : Diagram → Condition
 openingOf g = cond (propertyOf (g .claim) .entry) Entry Start
 
--- "cover, by node", or "of node 0"
+-- for C8.4 to C8.6: how many nodes are covered, all or the goal alone
 unfoldable pub coveredOf : Diagram → ℕ
 coveredOf g = cond (propertyOf (g .claim) .covered) (g .nodes) 1
 
--- "Invariance: start ..; cover, by node ..; then by node, by transition: range .., step."
--- "Wait-for: entry ..; cover ..; then range and step for nodes 1 up."
--- "Chain: entry; cover, of node 0 ..; then range, step for nodes 1 up, and after the step of the node's double transition, enabling"
+-- C8.3 to C8.6: the list, by the row of what the file claims
 unfoldable pub conditionsOf : List ℕ → Diagram → List Condition
 conditionsOf file g =
     let from = propertyOf (g .claim) .from in
     openingOf g ∷ each (λ n. Cover n ∷ []) (coveredOf g) 0 ++ each (λ n. each (movesOf file g n) (g .transitions) 0) (g .nodes - from) from
 
+-- for C8.15: how many conditions there are
 unfoldable pub totalOf : List ℕ → Diagram → ℕ
 totalOf file g = length (conditionsOf file g)
 
--- condition c, counted from 0
+-- C8.3: condition c; `Start` beyond the list, where nobody asks
 unfoldable pub conditionAt : List ℕ → Diagram → ℕ → Condition
 conditionAt file g c = getD (conditionsOf file g) c Start
 
--- c is one of the file's conditions
+-- for C12.9: c is one of the list
 abbrev pub Listed : List ℕ → Diagram → Condition → Type 0
 Listed file g c = List·Memᴰ c (conditionsOf file g)
 
 -- ---- the name of a broken condition
--- its number of refusal, node and transition: "13. Start is broken. 14. Entry is broken. 15. Cover is broken. 16. Range is broken. 17. Step is broken.
--- 18. Enabling is broken."; "1 node and 2 transition (255 where the condition has none ..)"
+-- C10.13 to C10.18, C12.3: the number of refusal, with node and transition, 255 for none (C12.6)
 unfoldable pub nameOf : Condition → ℕ × ℕ × ℕ
 nameOf Start = (13, 255, 255)
 nameOf Entry = (14, 255, 255)

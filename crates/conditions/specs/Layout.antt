@@ -22,7 +22,7 @@ layoutOf g =
 unfoldable pub pairOf : ℕ → ℕ → Condition
 pairOf n k = cond (eqb (k % 2) 0) (Range n (k / 2)) (Step n (k / 2))
 
--- "the node's double transition": that of its first double edge, or one past the file's transitions where it has none
+-- the double transition of a node: that of its first double edge, or one past the file's transitions where it has none
 unfoldable pub doubleEdge : List ℕ → Diagram → ℕ → ℕ
 doubleEdge file g n = firstFailing (λ e. not (doubleFrom n (edgeOf file g e))) (g .edges)
 

@@ -1,2 +1,2 @@
--- Demand 2, in its own words.
+-- What the verdict on a readable file decides, in its own words.
 pub mod Decision

@@ -1,1 +1,1 @@
-// Demand 2: what the verdict on a readable file decides.
+// What the verdict on a readable file decides (C12.9, C12.10).

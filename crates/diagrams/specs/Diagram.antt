@@ -16,15 +16,15 @@ use Rattle.ranges.specs.Range.{lowsOf, highsOf}
 use Rattle.states.specs.Number.{countOf}
 use Rattle.diagrams.specs.declared.Diagram.{Diagram}
 
--- what reading finds: the parts of a file, or the first refusal from 2 to 10
+-- for C11.6: what reading finds: the parts of a file, or the first refusal from 2 to 10
 unfoldable pub foundOf : List ℕ → Reading
 foundOf file = readOf file
 
--- "06 node, then its assertion": behind the records of the first n nodes
+-- for C1.13: the assertions of the first n nodes stand behind the nodes' records
 unfoldable pub assertionsOf : List ℕ → ℕ → List ℕ
 assertionsOf nodes n = tableOf 32 0 (λ i. getD nodes i 0 + 1) n
 
--- "02 start, then a truth expression"; "05 property. .. then q", or p and the q's
+-- for C1.7, C1.12, C4.3: where the parts of a file stand, and how many states it has. The start's and the property's truths stand behind their records
 unfoldable pub diagramOf : List ℕ → Outline → Diagram
 diagramOf file o =
     record {
@@ -43,20 +43,20 @@ diagramOf file o =
       edge = o .edge;
     }
 
--- g is the diagram of the file, in which reading found its parts
+-- for C11.6: reading found the parts of the file, and g is its diagram
 pub record Loaded (file : List ℕ) (g : Diagram) : Type 0 where
   pub outline : Outline
   pub found : foundOf file ≡ Reading.Found outline
   pub is : g ≡ diagramOf file outline
 
--- "A file is readable if no refusal that the check itself tries after 1 and before 11 meets it."
+-- C11.6: no refusal from 2 to 10 meets the file, and g is its diagram
 unfoldable pub Readable : List ℕ → Diagram → Type 0
 Readable file g = Loaded file g
 
--- "A state gives every variable a value in its range."
+-- C4.1: a value for each variable, in its range
 abbrev pub State : Diagram → List ℤ → Type 0
 State g state = Within (g .low) (g .high) state
 
--- edge e, counted from 0
+-- C1.14: edge e
 unfoldable pub edgeOf : List ℕ → Diagram → ℕ → Edge
 edgeOf file g e = edgeAt file (g .edge + e)

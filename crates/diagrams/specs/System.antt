@@ -1,4 +1,4 @@
--- The transitions of a file with diagram g, at a state.
+-- The transitions of a file with diagram g, in a state.
 use mathlib.Core.Bool.{Bool, _&&_}
 use mathlib.Core.List.{List}
 use Prim.Native.Nat.{ℕ, _+_}
@@ -10,26 +10,26 @@ use Rattle.expressions.specs.Expression.{holdsOf}
 use Rattle.evaluating.specs.Transition.{assignmentList, allInRange, assigned}
 use Rattle.diagrams.specs.declared.Diagram.{Diagram}
 
--- where transition t stands
+-- for C1.8: where transition t stands
 abbrev pub stepAt : Diagram → ℕ → ℕ
 stepAt g t = getD (g .steps) t 0
 
--- "03 transition, a = 1 just, 0 not"
+-- C5.5: its a is 1
 unfoldable pub justOf : List ℕ → Diagram → ℕ → Bool
 justOf file g t = eqb (fieldA file (stepAt g t)) 1
 
--- "then its guard (truth)"
+-- for C5.2: its guard is true, the truth behind its record
 unfoldable pub guardHolds : List ℕ → Diagram → ℕ → List ℤ → Bool
 guardHolds file g t state = holdsOf file (stepAt g t + 1) state
 
--- "all values in range"
+-- for C5.2: each value that it assigns is in range
 unfoldable pub valuesFit : List ℕ → Diagram → ℕ → List ℤ → Bool
 valuesFit file g t state = allInRange (g .low) (g .high) (assignmentList file (stepAt g t) state)
 
--- "A transition is enabled at s if its guard is true and all assigned values, worked out from s together, lie in range"
+-- C5.2: the transition is enabled
 unfoldable pub isEnabled : List ℕ → Diagram → ℕ → List ℤ → Bool
 isEnabled file g t state = guardHolds file g t state && valuesFit file g t state
 
--- "its successor then has those values, the rest unchanged"
+-- C5.3: its successor, where it is enabled
 unfoldable pub nextState : List ℕ → Diagram → ℕ → List ℤ → List ℤ
 nextState file g t state = assigned (assignmentList file (stepAt g t) state) state

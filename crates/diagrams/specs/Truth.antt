@@ -11,23 +11,23 @@ use Rattle.records.specs.Place.{placeOf}
 use Rattle.expressions.specs.Expression.{holdsOf}
 use Rattle.diagrams.specs.declared.Diagram.{Diagram}
 
--- "a starting state is one where the start is true"
+-- C6.3: a starting state
 unfoldable pub startHolds : List ℕ → Diagram → List ℤ → Bool
 startHolds file g state = holdsOf file (g .start) state
 
--- "06 node, then its assertion (truth)": whether node n is true
+-- C8.1: node n is true
 unfoldable pub nodeHolds : List ℕ → Diagram → ℕ → List ℤ → Bool
 nodeHolds file g n state = holdsOf file (getD (g .assertions) n 0) state
 
--- where expression i of the property stands
+-- for C1.12: where truth i of the property stands
 unfoldable pub claimedAt : List ℕ → Diagram → ℕ → ℕ
 claimedAt file g i = placeOf (inSequence (truthOf file (g .vars)) i (g .claimed))
 
--- "a = 1 invariance, then q. a = 2 wait-for, .. then p, q_0, q_1 and on to q_m, m = b - 1. a = 3 chain, then p, q": p stands first; the q of node i is q_i
--- where there is one for each phase, and else the only one
+-- C1.12: p stands first
 unfoldable pub pHolds : List ℕ → Diagram → List ℤ → Bool
 pHolds file g state = holdsOf file (claimedAt file g 0) state
 
+-- C1.12, C8.9: the q of node i is q_i where each phase has one, else the only one; behind p, where there is a p
 unfoldable pub qNumber : Claim → ℕ → ℕ
 qNumber c i = cond (propertyOf c .entry) 1 0 + cond (propertyOf c .phased) i 0
 

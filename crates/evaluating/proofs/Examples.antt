@@ -111,31 +111,31 @@ here = two (pos 5) (minus 3)
 -- ---- what expressions are worth
 abbrev numbers : List (List ℕ × ℤ)
 numbers =
-    -- 10 constant: 2, 256 + 44, -1 and the least, -32768
+    -- C2.3: 2, 256 + 44, -1 and the least, -32768
     (constant 2, pos 2) ∷
     (constant 300, pos 300) ∷
     (constant 0xffff, minus 1) ∷
     (constant 0x8000, minus 32768) ∷
-    -- 11 variable: one above zero, one below, one that the state leaves at zero
+    -- C2.4: one above zero, one below, one that the state leaves at zero
     (variable 0, pos 5) ∷
     (variable 1, minus 3) ∷
     (variable 11, pos 0) ∷
-    -- 12 sum, 13 difference (the first less the second), 14 product
+    -- C2.5: sum, difference (the first less the second), product
     (sum (variable 0) (variable 1), pos 2) ∷
     (difference (variable 0) (variable 1), pos 8) ∷
     (difference (variable 1) (variable 0), minus 8) ∷
     (product (variable 0) (variable 1), minus 15) ∷
     (product (variable 1) (variable 1), pos 9) ∷
-    -- 15 indicator
+    -- C2.6
     (indicator yes, pos 1) ∷
     (indicator no, pos 0) ∷
     -- an indicator within a product: 7 times whether -3 < 5
     (product (constant 7) (indicator (less (variable 1) (variable 0))), pos 7) ∷
     (product (indicator (less (variable 0) (variable 1))) (constant 7), pos 0) ∷
-    -- (5 - 2) - 4 and 5 - (2 - 4): where the second operand begins
+    -- C2.1: (5 - 2) - 4 and 5 - (2 - 4): where the second operand begins
     (difference (difference (variable 0) (constant 2)) (constant 4), minus 1) ∷
     (difference (variable 0) (difference (constant 2) (constant 4)), pos 7) ∷
-    -- 16 levels: fifteen sums, one within the other by their second operand, and by their first
+    -- C2.12: 16 levels, fifteen sums, one within the other by their second operand, and by their first
     (nested 15 (sum (constant 1)) (variable 0), pos 20) ∷
     (nested 15 (λ x. sum x (constant 1)) (variable 0), pos 20) ∷
     []
@@ -148,50 +148,50 @@ numbers-hold = answers (λ part. Expression.number 16 part here) numbers refl
 
 abbrev truths : List (List ℕ × Bool)
 truths =
-    -- 20 true, 21 false, 22 not
+    -- C2.7, C2.8
     (yes, true) ∷
     (no, false) ∷
     (not yes, false) ∷
     (not no, true) ∷
-    -- 23 and
+    -- C2.9: and
     (and yes yes, true) ∷
     (and yes no, false) ∷
     (and no yes, false) ∷
-    -- 24 or
+    -- or
     (or no yes, true) ∷
     (or yes no, true) ∷
     (or no no, false) ∷
-    -- 25 implies, false only where the first is true and the second is not
+    -- implies, false only where the first is true and the second is not
     (implies yes yes, true) ∷
     (implies yes no, false) ∷
     (implies no yes, true) ∷
     (implies no no, true) ∷
-    -- 26 iff
+    -- iff
     (iff yes yes, true) ∷
     (iff yes no, false) ∷
     (iff no no, true) ∷
-    -- 27 equal, of numbers below zero too
+    -- C2.10: equal, of numbers below zero too
     (equal (variable 1) (constant 0xfffd), true) ∷
     (equal (variable 1) (constant 3), false) ∷
     (equal (variable 0) (constant 5), true) ∷
     (equal (variable 0) (constant 4), false) ∷
-    -- 28 less, the first than the second
+    -- less, the first than the second
     (less (constant 4) (variable 0), true) ∷
     (less (constant 5) (variable 0), false) ∷
     (less (constant 6) (variable 0), false) ∷
     (less (constant 0xfffc) (variable 1), true) ∷
     (less (constant 0xffff) (variable 1), false) ∷
-    -- 29 at most
+    -- at most
     (atMost (constant 4) (variable 0), true) ∷
     (atMost (constant 5) (variable 0), true) ∷
     (atMost (constant 6) (variable 0), false) ∷
     -- a truth within a number within a truth: the indicator of 0 < 5, less 1, is 0
     (equal (difference (indicator (less (constant 0) (variable 0))) (constant 1)) (constant 0), true) ∷
     (equal (difference (constant 1) (indicator (equal (variable 0) (variable 1)))) (constant 0), false) ∷
-    -- where the second operand begins: (false and true) or true, false and (true or true)
+    -- C2.1: where the second operand begins: (false and true) or true, false and (true or true)
     (or (and no yes) yes, true) ∷
     (and no (or yes yes), false) ∷
-    -- 16 levels: fifteen times not; an equal, and within it fourteen sums and a variable
+    -- C2.12: 16 levels, fifteen times not; an equal, and within it fourteen sums and a variable
     (nested 15 not yes, false) ∷
     (nested 15 not no, true) ∷
     (equal (nested 14 (λ x. sum x (constant 1)) (variable 0)) (constant 19), true) ∷
@@ -207,7 +207,7 @@ truths-hold = answers (λ part. Expression.truth 16 part here) truths refl
 abbrev assign : ℕ → List ℕ → List ℕ
 assign a x = assignment a ++ x
 
--- document 01's: v in 0..2, start v = 0, at record 5 a step with guard v < 2 and v := v + 1, q v ≤ 2, node v ≤ 1
+-- A of C16.1: v in 0..2, start v = 0, at record 5 a step with guard v < 2 and v := v + 1, q v ≤ 2, node v ≤ 1
 abbrev A : List ℕ
 A = flatten Files.A
 
@@ -219,7 +219,7 @@ stepping step = take (8 * 5) A ++ step ++ drop (8 * 13) A
 abbrev C : List ℕ
 C = flatten Files.C
 
--- a and b in 0..1, start a = 0 and b = 1, at record 10 a step with guard true that swaps them, node and q "not a = b"
+-- J of C16.1: two variables a, b in 0..1 that begin as 0 and 1; at record 10 a step with guard true that swaps them; node and q say that they differ
 abbrev J : List ℕ
 J = flatten Files.J
 
@@ -235,7 +235,7 @@ twelve = flatten (replicate 12 (range 0 1))
 -- a file, a record and a state; whether the truth there holds
 abbrev assertions : List ((List ℕ × ℕ × List ℤ) × Bool)
 assertions =
-    -- A's start, v = 0, its q, v ≤ 2, and its node, v ≤ 1
+    -- C6.3, C8.1: A's start, v = 0, its q, v ≤ 2, and its node, v ≤ 1
     ((A, 2, one (pos 0)), true) ∷
     ((A, 2, one (pos 1)), false) ∷
     ((A, 14, one (pos 2)), true) ∷
@@ -262,7 +262,7 @@ assertions-hold = answers holding assertions refl
 abbrev lengths : List (List ℕ × List ℕ)
 lengths =
     ([], 0 ∷ []) ∷
-    -- no operand, one, two
+    -- C2.2: no operand, one, two
     (variable 0, 1 ∷ 0 ∷ []) ∷
     (not (not yes), 3 ∷ 2 ∷ 1 ∷ 0 ∷ []) ∷
     (sum (variable 0) (constant 1), 3 ∷ 1 ∷ 1 ∷ 0 ∷ []) ∷
@@ -281,11 +281,11 @@ unfolding flatten Kind.within Kind.signatureOf Spans.spanBy Spans.withSpan Spans
 lengths-hold = answers lengthsOf lengths refl
 
 -- ---- ranges
--- a file and how many variables it has; the low ends, the high ends and how many states there are
+-- C4.3: a file and how many variables it has; the low ends, the high ends and how many states there are
 abbrev ranges : List ((List ℕ × ℕ) × (List ℤ × List ℤ × ℕ))
 ranges =
     ((pair, 2), (two (pos 0) (minus 1), two (pos 2) (pos 1), 9)) ∷
-    -- its first variable alone: the second is idle
+    -- C4.2: its first variable alone: the second is idle
     ((pair, 1), (one (pos 0), one (pos 2), 3)) ∷
     -- all that two bytes can hold
     ((range 0x8000 0x7fff, 1), (one (minus 32768), one (pos 32767), 65536)) ∷
@@ -302,7 +302,7 @@ unfolding flatten Bytes.signed16 Radix.offsetOf Table.tabulate Table.tableOf Ran
 ranges-hold = answers rangesOf ranges refl
 
 -- ---- states and their numbers
--- a file, how many variables it has, and a number; its state, that state's number, and the next state
+-- C4.4 to C4.6: a file, how many variables it has, and a number; its state, that state's number, and the next state
 abbrev states : List ((List ℕ × ℕ × ℕ) × (List ℤ × ℕ × List ℤ))
 states =
     -- the first state, and one in the middle
@@ -346,11 +346,11 @@ stepped guard enabled next = record { guard = guard; enabled = enabled; next = n
 -- a file, how many variables it has, the transition's record and a state; what the step gives, and the state with all the values assigned, in range or not
 abbrev steps : List ((List ℕ × ℕ × ℕ × List ℤ) × (Stepped × List ℤ))
 steps =
-    -- A's step: v := v + 1 where v < 2
+    -- C5.2: A's step: v := v + 1 where v < 2
     ((A, 1, 5, one (pos 0)), (stepped true true (one (pos 1)), one (pos 1))) ∷
     ((A, 1, 5, one (pos 1)), (stepped true true (one (pos 2)), one (pos 2))) ∷
     ((A, 1, 5, one (pos 2)), (stepped false false (one (pos 2)), one (pos 3))) ∷
-    -- C's, with guard true: at 2 the value is out of range, so the step is not enabled, and nothing is clamped
+    -- C5.2: C's, with guard true: at 2 the value is out of range, so the step is not enabled, and nothing is clamped
     ((C, 1, 5, one (pos 1)), (stepped true true (one (pos 2)), one (pos 2))) ∷
     ((C, 1, 5, one (pos 2)), (stepped true false (one (pos 2)), one (pos 3))) ∷
     -- v := v - 1 leaves the range at its low end
@@ -358,7 +358,7 @@ steps =
     ((down, 1, 5, one (pos 0)), (stepped true false (one (pos 0)), one (minus 1))) ∷
     -- no assignment
     ((stepping (transition 0 ++ yes), 1, 5, one (pos 1)), (stepped true true (one (pos 1)), one (pos 1))) ∷
-    -- J's swaps, worked out together
+    -- C5.1, C5.3: J's swaps, worked out together
     ((J, 2, 10, two (pos 0) (pos 1)), (stepped true true (two (pos 1) (pos 0)), two (pos 1) (pos 0))) ∷
     ((J, 2, 10, two (pos 1) (pos 0)), (stepped true true (two (pos 0) (pos 1)), two (pos 0) (pos 1))) ∷
     ((J, 2, 10, two (pos 1) (pos 1)), (stepped true true (two (pos 1) (pos 1)), two (pos 1) (pos 1))) ∷

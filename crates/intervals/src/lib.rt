@@ -12,7 +12,7 @@ ghost use Rattle.integers.specs.Interval.{overEnds};
 ghost use Rattle.integers.specs.Inside.{Bounded};
 ghost use Rattle.intervals.specs.Interval.{leafOf, combine, joinOf, ownOf, analysisOf, intervalsOf};
 
-// The interval of an expression and the record behind it, or the record whose own interval goes out of bounds.
+// The interval of an expression and the record behind it, or the record whose own interval is out of bounds.
 pub enum Analysis {
     Within(Interval, usize),
     Out(usize),
@@ -109,7 +109,7 @@ fn analyse(file: &[u8], levels: usize, at: usize) -> Analysis
     }
 }
 
-// Analyses every expression of the file, in file order: refusal 8 at the first record whose own interval goes out of bounds.
+// Analyses every expression of the file, in file order: refusal 8 at the first record whose own interval is out of bounds.
 pub fn intervals(file: &[u8]) -> Walked
     ensures { λ r. ⌜ r ≡ intervalsOf (now (file .entry)) ⌝ }
 {

@@ -1,4 +1,4 @@
--- The marked examples B, D and H of document 01 as one counter.
+-- The files B, D and H of C16.1 as one counter.
 -- Assumes nothing.
 use mathlib.Core.Path.{_≡_, refl}
 use mathlib.Core.Bool.{not}

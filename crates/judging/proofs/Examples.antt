@@ -1,5 +1,5 @@
--- The marked examples of document 01, A to J, from the bytes of the file to the bytes of the report, and the tests made: one table, which antt computes,
--- and one theorem over its rows, with files that break each kind of condition or are one of its traps, or break one at several states. Then a table of
+-- The files A to J of C16.1, from the bytes of the file to the bytes of the report, and the tests made: one table, which antt computes, and one theorem
+-- over its rows, with files that break each kind of condition, or break one at several states, or that a careless checker would get wrong. Then a table of
 -- lists of conditions and one of single tests.
 -- Assumes nothing.
 use mathlib.Core.Path.{_≡_, refl}
@@ -47,27 +47,27 @@ marked =
     (H, 0x00ffff0008000000, 0, 24) ∷
     (I, 0x09ffff0028000000, 0, 0) ∷
     (J, 0x00ffff0004000000, 0, 16) ∷
-    -- "no bytes, 3 at 0; 7 bytes, 2"
+    -- C10.3, C10.2: an empty file; 7 bytes
     ([], 0x03ffff0000000000, 0, 0) ∷
     (take 7 (range 0 2) ∷ [], 0x02ffff0000000000, 0, 0) ∷
     []
 
 abbrev broken : List Row
 broken =
-    -- a starting state in no node (13), p in no node (14), a node without its q (15), a node whose double transition is disabled (18)
+    -- C10.13 to C10.15, C10.18: a starting state in no node, p in no node, a node without its q, a node whose double transition is disabled
     (set A 4 (constant 2), 0x0dffff0000000000, 0x0200000000000000, 3) ∷
     (set H 37 (constant 1), 0x0effff0000000000, 0, 1) ∷
     (set H 25 (constant 1), 0x0f02ff0003000000, 0, 10) ∷
     (set (set (set D 23 (plain 0x29)) 24 (constant 1)) 25 (variable 0), 0x1201000004000000, 0x0200000000000000, 15) ∷
-    -- a negative value
+    -- C14.3: a negative value
     (set (set (set A 0 (range 0xffff 0)) 4 (constant 0xffff)) 20 (constant 0xfffe), 0x0dffff0000000000, 0xffff000000000000, 1) ∷
-    -- a transition that has no edge must keep the node; with an edge back to it, so it does in B
+    -- C8.11: without an edge a transition must keep the node; with an edge back to it, so it does in B
     (B ++ (single 0 0 0 ∷ []), 0x00ffff0004000000, 0, 12) ∷
-    -- after a double step the source node is not enough: E, its node 2 "v at most 1"
+    -- C8.12: after a double step the source node is not enough: E, its node 2 "v at most 1"
     (set (set E 27 (plain 0x29)) 29 (constant 1), 0x1102000006000000, 0, 19) ∷
-    -- a broken condition counts at states that no run reaches: B, its guard "v = 2"
+    -- C8.14, C10.16: a broken condition counts at states that no run reaches: B, its guard "v = 2"
     (set B 6 (plain 0x27), 0x1000000002000000, 0x0200000000000000, 9) ∷
-    -- broken at several states, the lowest is named: A, its start "v at most 2" and its node "v at most 0"; J, its q false, at 0 1 and 1 0
+    -- C12.5, C12.7: broken at several states, the lowest is named: A, its start "v at most 2" and its node "v at most 0"; J, its q false, at 0 1 and 1 0
     (set (set (set A 2 (plain 0x29)) 4 (constant 2)) 20 (constant 0), 0x0dffff0000000000, 0x0100000000000000, 2) ∷
     (set (set (set J 18 (plain 0x26)) 19 true) 20 true, 0x0f00ff0001000000, 0x0000010000000000, 6) ∷
     []
@@ -75,7 +75,7 @@ broken =
 abbrev table : List Row
 table = marked ++ broken
 
--- ---- lists of conditions
+-- ---- lists of conditions (C8.3 to C8.6)
 abbrev listed : List ℕ → Reading → List Condition
 listed file (Reading.Found o) = conditionsOf file (diagramOf file o)
 listed file (Reading.Refused number place) = []
@@ -99,7 +99,7 @@ lists =
 abbrev listedBy : List (List ℕ) → List Condition
 listedBy file = listed (flatten file) (foundOf (flatten file))
 
--- ---- single tests: a file, a condition's number and a state's
+-- ---- single tests: a file, a condition's number and a state's (C13.1, C13.3)
 abbrev Question : Type 0
 Question = List (List ℕ) × ℕ × ℕ
 
@@ -112,7 +112,7 @@ singles =
     ((A, 3, 1), Single.Fails) ∷
     ((A, 3, 2), Single.Holds) ∷
     ((E, 6, 0), Single.Fails) ∷
-    -- a condition number too large is 11, a state number 12, both 11; a file that is not readable comes first
+    -- C10.11, C10.12, C13.2: a condition number too large is 11, a state number 12, both 11; a file that is not readable comes first
     ((A, 4, 0), Single.Refused 11 0) ∷
     ((A, 3, 3), Single.Refused 12 0) ∷
     ((A, 4, 3), Single.Refused 11 0) ∷
@@ -133,6 +133,7 @@ unfolding reporting
 columns = (refl, refl, refl)
 
 -- ---- the theorems
+-- C16.1, C14.1 to C14.6: report and tests of each row
 pub examples : (row : Row) → List·Memᴰ row table → checked (row .0) ≡ reported row
 examples = agree (λ row. checked (row .0)) reported (columns .0)
 

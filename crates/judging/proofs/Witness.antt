@@ -1,5 +1,5 @@
--- Nothing is claimed of an empty set: for each of the three claims an accepted file of document 01 (B, H, D) that makes it, with a run that the claim
--- speaks of: from a starting state unless said otherwise, and it idles and moves.
+-- Nothing is claimed of an empty set: for each of the three claims (C7.1, C7.3, C7.5) an accepted file (B, H and D of C16.1) that makes it, with a run that
+-- the claim speaks of: from a starting state unless said otherwise, and it idles and moves.
 --     invariance-met     B: a finite run
 --     wait-for-met       H: an endless run from a state where p holds, and q_0 does not hold at the four positions from there on
 --     chain-met          D, whose step is just: an endless run, 2-just and just, from a state where p holds; q holds 2 × 2 steps on, and not before

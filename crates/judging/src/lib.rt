@@ -13,7 +13,7 @@ ghost use Rattle.report.specs.Report.{reportOf};
 ghost use Rattle.soundness.specs.System.{Claim};
 
 // Checks a file: 0 and the total of its conditions where all of them are true, so that what the file claims is true of every run; else the refusal
-// that meets it. The report has the same fields.
+// that meets it. The report has the same fields. Every call ends in such an answer (C12.8).
 pub fn check(file: &[u8], report: &mut [u8]) -> Verdict
     ensures verdict { λ r. ⌜ r ≡ checkOf (now (file .entry)) (length (now (report .entry))) ⌝ }
     ensures written { λ r. ⌜ now (report .exit) ≡ reportOf r (now (report .entry)) ⌝ }
@@ -28,7 +28,7 @@ pub fn check(file: &[u8], report: &mut [u8]) -> Verdict
     found
 }
 
-// Tests one condition at one state, by their numbers.
+// Tests one condition at one state, by their numbers. Every call ends in an answer (C12.8).
 pub fn single(file: &[u8], condition: usize, state: usize) -> Single
     ensures { λ r. ⌜ r ≡ singleOf (now (file .entry)) condition state ⌝ }
 {

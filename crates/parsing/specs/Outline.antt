@@ -1,4 +1,4 @@
--- A whole file, section by section "in file order": the first refusal from 2 to 6, or the outline.
+-- A whole file, section by section: the first refusal from 2 to 6, or the outline.
 use Prim.Native.Nat.{ℕ, _+_, _/_, _%_}
 use mathlib.Core.Bool.{cond, _&&_}
 use mathlib.Core.List.{List}
@@ -11,12 +11,12 @@ use Rattle.records.specs.Record.{kindIs}
 use Rattle.records.specs.Walk.{andThen, inSequence, truthOf}
 use Rattle.sections.specs.Section.{noFields, propertyAt, propertyFields, variablesOf, transitionsOf, expressionsOf, phasesOr, nodesOf, edgesOf}
 
--- the file goes on behind a section, or the section's refusal stands
+-- for C11.2: the file goes on behind a section, or the section's refusal stands
 abbrev pub andSection : Section → (ℕ → ℕ → Reading) → Reading
 andSection (Section.Items n end) next = next n end
 andSection (Section.Refused number place) next = Refused number place
 
--- the nodes, from `node` on: "too few nodes is 3"; then the edges, to the file's end: any other record behind them doesn't fit its place
+-- C1.5, C10.3, C11.4: the nodes, from `node` on, enough of them; then the edges, to the file's end: any other record behind them is 3
 unfoldable pub nodesParsed : List ℕ → ℕ → ℕ → ℕ → ℕ → ℕ → Reading
 nodesParsed file vars transition transitions property node =
     andSection (nodesOf file vars (propertyAt file property .ranks) (phasesOr file property 32) node) λ nodes edge.
@@ -28,7 +28,7 @@ nodesParsed file vars transition transitions property node =
     (Refused 3 end))
     (Refused 3 edge)
 
--- "exactly one property", with its expressions
+-- C1.10, C10.3, C10.4: the property with its truths (C1.12); then the nodes
 unfoldable pub propertyParsed : List ℕ → ℕ → ℕ → ℕ → ℕ → Reading
 propertyParsed file vars transition transitions property =
     cond (kindIs file 0x05 property)
@@ -37,18 +37,18 @@ propertyParsed file vars transition transitions property =
     (Refused 4 property))
     (Refused 3 property)
 
--- the transitions, from `transition` on
+-- for C1.5: the transitions, from `transition` on; then the property
 unfoldable pub transitionsParsed : List ℕ → ℕ → ℕ → Reading
 transitionsParsed file vars transition = andSection (transitionsOf file vars transition) (propertyParsed file vars transition)
 
--- the start, "exactly one", behind one variable or more
+-- C1.7, C10.3, C10.4, C11.4: the start, behind one variable or more; then the transitions
 unfoldable pub startParsed : List ℕ → ℕ → ℕ → Reading
 startParsed file vars at =
     cond (leb 1 vars && kindIs file 0x02 at)
     (cond (noFields file at) (andThen Refused (truthOf file vars (at + 1)) (transitionsParsed file vars)) (Refused 4 at))
     (Refused 3 at)
 
--- "The file's length isn't a multiple of 8 or exceeds 32,768" (2)
+-- C10.2, C1.5: the length; then the variables, and all that follows
 unfoldable pub parsedOf : List ℕ → Reading
 parsedOf file =
     cond (eqb (length file % 8) 0 && leb (length file) 32768)

@@ -1,4 +1,4 @@
--- The marked examples of document 01 as files, for tables of examples here and in the crates above. A file is written as the list of its records.
+-- The files A to J of C16.1, for tables of examples here and in the crates above. A file is written as the list of its records.
 -- Assumes nothing.
 use mathlib.Core.Path.{_≡_, sym, ap, _∙_}
 use mathlib.Core.List.{List, [], _∷_, _++_, map, List·Memᴰ, List·Memᴰ·head, List·Memᴰ·tail, head-eq-of-cons-eq, tail-eq-of-cons-eq}
@@ -18,7 +18,7 @@ bytes n =
     n / 0x100000000000000 ∷ n / 0x1000000000000 % 256 ∷ n / 0x10000000000 % 256 ∷ n / 0x100000000 % 256 ∷
     n / 0x1000000 % 256 ∷ n / 0x10000 % 256 ∷ n / 0x100 % 256 ∷ n % 256 ∷ []
 
--- "bytes 0-5 given (6-7 zero)"
+-- its first six, the last two zero
 abbrev pub given : ℕ → List ℕ
 given n = bytes (n * 0x10000)
 
@@ -73,8 +73,8 @@ is a b = plain 0x27 ∷ variable a ∷ constant b ∷ []
 abbrev pub product : ℕ → ℕ → List (List ℕ)
 product b c = plain 0x14 ∷ constant b ∷ constant c ∷ []
 
--- ---- the marked examples
--- "File A, 21 records, bytes 0-5 given (6-7 zero)"
+-- ---- the files
+-- v in 0..2, from 0, counts up while it is less than 2; q is v ≤ 2, the node v ≤ 1
 abbrev pub A : List (List ℕ)
 A =
     map given (
@@ -82,43 +82,43 @@ A =
     0x110000000000 ∷ 0x100002000000 ∷ 0x040000000000 ∷ 0x120000000000 ∷ 0x110000000000 ∷ 0x100001000000 ∷ 0x050100000000 ∷
     0x290000000000 ∷ 0x110000000000 ∷ 0x100002000000 ∷ 0x060000000000 ∷ 0x290000000000 ∷ 0x110000000000 ∷ 0x100001000000 ∷ [])
 
--- "A's last constant 2"
+-- the node is v ≤ 2
 abbrev pub B : List (List ℕ)
 B = set A 20 (constant 2)
 
--- "B with guard true"
+-- B, its guard true
 abbrev pub C : List (List ℕ)
 C = take 6 B ++ (true ∷ drop 9 B)
 
--- "nodes v = 2, v = 1, v = 0"
+-- node i is v = 2 - i
 abbrev pub nodes : List (List ℕ)
 nodes = (node ∷ is 0 2) ++ (node ∷ is 0 1) ++ (node ∷ is 0 0)
 
--- "chain, A's variable, start and step (just), p true, q v = 2, nodes .., double edges 2 to 1, 1 to 0"
+-- a chain about A's counter, its step just: p is true, q is v = 2, and double edges lead down node by node
 abbrev pub D : List (List ℕ)
 D = set (take 13 A) 5 (transition 1) ++ (property 3 0 ∷ true ∷ is 0 2) ++ nodes ++ (double 0 2 1 ∷ double 0 1 0 ∷ [])
 
--- "D with 2 to 0 for 2 to 1"
+-- D, its first edge to node 0
 abbrev pub E : List (List ℕ)
 E = set D 30 (double 0 2 0)
 
--- "D not just"
+-- D, its step not just
 abbrev pub F : List (List ℕ)
 F = set D 5 (transition 0)
 
--- "D without 2 to 1"
+-- D without its first edge
 abbrev pub G : List (List ℕ)
 G = take 30 D ++ drop 31 D
 
--- "wait-for, same nodes as phases, p v = 0, single edges"
+-- a wait-for with D's nodes and phases that say the same: p is v = 0, and the edges are single
 abbrev pub H : List (List ℕ)
 H = take 13 D ++ (property 2 3 ∷ is 0 0 ++ is 0 2 ++ is 0 1 ++ is 0 0) ++ nodes ++ (single 0 2 1 ∷ single 0 1 0 ∷ [])
 
--- "H with edge 1 to 2 added"
+-- H with an edge upward
 abbrev pub I : List (List ℕ)
 I = H ++ (single 0 1 2 ∷ [])
 
--- "a and b in 0..1, start a = 0 and b = 1, one step, guard true, swaps them, node and q "not a = b""
+-- two variables in 0..1 that begin as 0 and 1 and are swapped: they differ
 abbrev pub J : List (List ℕ)
 J =
     (range 0 1 ∷ range 0 1 ∷ start ∷ plain 0x23 ∷ is 0 0 ++ is 1 1) ++

@@ -14,49 +14,47 @@ use Rattle.sections.specs.Section.{propertyAt, edgeAt, transitionOf}
 use Rattle.records.specs.Place.{placeOf}
 use Rattle.truths.specs.Search.{any}
 
--- where transition t stands, and whether it is just (a = 1)
+-- for C9.6: where transition t stands, and whether it is just
 unfoldable pub transitionAt : List ℕ → Outline → ℕ → ℕ
 transitionAt file o t = placeOf (inSequence (transitionOf file (o .vars)) t (o .transition))
 
 unfoldable pub justOf : List ℕ → Outline → ℕ → Bool
 justOf file o t = eqb (fieldA file (transitionAt file o t)) 1
 
--- "one double transition per node, never also single there": of two edges from one node, those of one transition are both single or both
--- double, and those of two transitions are not both double
+-- C9.7, C9.8: of two edges from one node, those of two transitions are both double, or those of one are not both single or both double
 unfoldable pub conflictOf : Edge → Edge → Bool
 conflictOf a b =
     eqb (a .from) (b .from) && cond (eqb (a .transition) (b .transition)) (not (Bool·beq (a .double) (b .double))) (a .double && b .double)
 
--- "from node 1 up, target not above source", where the property asks it
+-- C9.2, C9.3: where the property asks it; an invariance doesn't (C9.1)
 unfoldable pub leadsOf : Property → Edge → Bool
 leadsOf p e = leb (p .from) (e .from) && (p .rising || leb (e .to) (e .from))
 
--- "strictly down" likewise
+-- C9.5: a double edge falls, where edges may not rise
 unfoldable pub fallsOf : Property → Edge → Bool
 fallsOf p e = p .rising || ltb (e .to) (e .from)
 
--- where edges may be double: the edge at `at` conflicts with none before it; it is single, or it is "double strictly down, on just transitions"
+-- C9.5 to C9.8: where edges may be double: the edge at `at` conflicts with none before it, and is single, or falls and is just
 unfoldable pub doubleRuleOf : List ℕ → Outline → ℕ → Bool
 doubleRuleOf file o at =
     not (any (λ i. conflictOf (edgeAt file i) (edgeAt file at)) (at - o .edge) (o .edge))
     && (not (edgeAt file at .double) || (fallsOf (propertyAt file (o .property)) (edgeAt file at) && justOf file o (edgeAt file at .transition)))
 
--- "Invariance: single only. Wait-for: single, from node 1 up, target not above source. Chain: likewise, double strictly down, on just
--- transitions, one double transition per node, never also single there"
+-- C9.1 to C9.8: the edge at `at` meets the rules, given those before it
 unfoldable pub ruleOf : List ℕ → Outline → ℕ → Bool
 ruleOf file o at =
     let p = propertyAt file (o .property) in
     leadsOf p (edgeAt file at) && cond (p .doubles) (doubleRuleOf file o at) (not (edgeAt file at .double))
 
--- "An edge breaks an edge rule, given the edges before it" (9)
+-- C10.9: each edge does
 unfoldable pub rulesOf : List ℕ → Outline → Walked
 rulesOf file o = refuseFirst 9 (ruleOf file o) (o .edges) (o .edge)
 
--- "each node from 1 up has a double edge"
+-- C9.9: the node has a double edge
 unfoldable pub doubledOf : List ℕ → Outline → ℕ → Bool
 doubledOf file o node = any (λ i. doubleFrom node (edgeAt file i)) (o .edges) (o .edge)
 
--- "A chain node lacks its double edge (place: lowest such node)" (10)
+-- C10.10: each node from 1 up does, where edges may be double
 unfoldable pub doublesOf : List ℕ → Outline → Walked
 doublesOf file o =
     let p = propertyAt file (o .property) in

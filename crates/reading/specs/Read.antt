@@ -1,4 +1,4 @@
--- Reading a whole file: the first refusal that meets it, in the "Order of checking" from 2 to 10, or its outline. Refusals 2 to 6 are parsing's.
+-- Reading a whole file: the first refusal from 2 to 10 that meets it, or its outline. Refusals 2 to 6 are parsing's.
 use mathlib.Core.List.{List}
 use Prim.Native.Nat.{ℕ}
 use Rattle.records.specs.Walk.{andThen}
@@ -11,7 +11,7 @@ use Rattle.reading.specs.States.{statesOf}
 use Rattle.intervals.specs.Interval.{intervalsOf}
 use Rattle.reading.specs.Edge.{rulesOf, doublesOf}
 
--- 7, then 8, then 9, then 10
+-- C11.1: 7, then 8, then 9, then 10, each for the whole file
 unfoldable pub stagesRead : List ℕ → Outline → Reading
 stagesRead file o =
     andThen Refused (statesOf file (o .vars) 0 1) λ end.
@@ -20,6 +20,6 @@ stagesRead file o =
     andThen Refused (doublesOf file o) λ end.
     Found o
 
--- 2 to 6, then those
+-- C11.1, C11.6: 2 to 6, then those
 unfoldable pub readOf : List ℕ → Reading
 readOf file = andFound Refused (parsedOf file) (stagesRead file)

@@ -92,7 +92,7 @@ pub record DoubleTransition (file : List ℕ) (o : Outline) (node : ℕ) : Type 
       → edgeOf file o e .double ≡ true
 
 -- ---- what refusal 8 says
--- the own interval of the record at `at`, whose operands' intervals are in bounds: "a constant's own value, a variable's range", or that of a sum,
+-- the own interval of the record at `at`, whose operands' intervals are in bounds: that of a constant, of a variable, or of a sum,
 -- difference or product
 pub data Own (file : List ℕ) (at : ℕ) : Interval → Type 0 where
   leaf : signatureAt file at .operands ≡ 0 → Own file at (leafOf file at)

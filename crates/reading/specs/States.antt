@@ -1,4 +1,4 @@
--- How many states a file has. "The ranges' product, built up by variable, passes 1,048,576 (place: that variable)" (7).
+-- How many states a file has, and refusal 7.
 use Prim.Native.Nat.{ℕ, zero, suc, _+_, _*_}
 use mathlib.Core.Bool.{cond}
 use mathlib.Core.List.{List}
@@ -7,11 +7,11 @@ use Rattle.records.specs.declared.walk.Walked.{Walked}
 use Rattle.records.specs.Record.{valueB, valueC}
 use Rattle.states.specs.Number.{sizeOf}
 
--- how many values the variable at record `at` has: those of its range b..c
+-- for C10.7: how many values the variable at record `at` has
 unfoldable pub sizeAt : List ℕ → ℕ → ℕ
 sizeAt file at = sizeOf (valueB file at) (valueC file at)
 
--- the product, built up by variable: `product` times the sizes of the `left` variables from `at` on
+-- C10.7: `product` times the sizes of the `left` variables from `at` on
 unfoldable pub statesOf : List ℕ → ℕ → ℕ → ℕ → Walked
 statesOf file zero at product = Walked.End product
 statesOf file (suc left) at product =

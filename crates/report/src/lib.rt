@@ -7,7 +7,7 @@ ghost use Prim.Native.Nat.{_≤_};
 ghost use lib.ListN.{length, take, drop};
 ghost use Rattle.report.specs.Report.{valueBytes, reportOf};
 
-// The number of the refusal, or 0; the broken condition's node and transition, 255 for none; the condition, the place, or for 0 the total; the values
+// The number of the refusal, or 0; the broken condition's node and transition, 255 for none; the condition, a refusal's place, or the total; the values
 // of the state that breaks the condition. Beside what is reported, the tests made.
 #[repr(C)]
 pub struct Verdict {

@@ -1,4 +1,4 @@
--- The sections of a file ("The file"): at each record "3 to 6 are tried in that order", first record first.
+-- The sections of a file: at each record refusals 3 to 6 in this order (C11.2).
 use Prim.Native.Nat.{ℕ, zero, suc, _+_, _*_, _-_}
 use mathlib.Core.Bool.{Bool, cond, _&&_}
 use mathlib.Core.List.{List}
@@ -16,50 +16,50 @@ use Rattle.shapes.specs.Property.{claimOf, propertyOf}
 use Rattle.records.specs.Kind.{number, truth}
 use Rattle.records.specs.Walk.{andThen, inSequence, walkOf, truthOf}
 
--- ---- the fields of a section's records: "A field has a value not allowed, or names a variable, transition or node that the file lacks" (4)
--- "01 variable, range b..c, b ≤ c"
+-- ---- the fields of a section's records, or refusal 4 (C10.4); those without a meaning are zero (C1.4)
+-- C1.6: a variable's, b at most c
 unfoldable pub variableFields : List ℕ → ℕ → Bool
 variableFields file at = zerosOf file (8 * at + 1) 1 && zerosOf file (8 * at + 6) 2 && leZ (valueB file at) (valueC file at)
 
--- "02 start", "06 node": no field
+-- C1.4: the start's and a node's: none
 abbrev pub noFields : List ℕ → ℕ → Bool
 noFields file at = zerosOf file (8 * at + 1) 7
 
--- "03 transition, a = 1 just, 0 not"
+-- C1.8: a transition's
 unfoldable pub transitionFields : List ℕ → ℕ → Bool
 transitionFields file at = leb (fieldA file at) 1 && zerosOf file (8 * at + 2) 6
 
--- "04 assignment to variable a"
+-- C1.9, C1.15: an assignment's
 unfoldable pub assignmentFields : List ℕ → ℕ → ℕ → Bool
 assignmentFields file vars at = ltb (fieldA file at) vars && zerosOf file (8 * at + 2) 6
 
--- "05 property": what it claims, and what that asks
+-- for C1.10: what a property claims, and the row of that
 abbrev pub claimAt : List ℕ → ℕ → Claim
 claimAt file at = claimOf (fieldA file at)
 
 abbrev pub propertyAt : List ℕ → ℕ → Property
 propertyAt file at = propertyOf (claimAt file at)
 
--- "b = 1..32 the count of phases", where they are counted
+-- C1.4, C1.11, C11.5: b counts phases, or is zero
 unfoldable pub phasesFit : Bool → ℕ → Bool
 phasesFit phased b = cond phased (leb 1 b && leb b 32) (eqb b 0)
 
+-- C1.4, C1.10, C1.11: a property's
 unfoldable pub propertyFields : List ℕ → ℕ → Bool
 propertyFields file at = propertyAt file at .known && phasesFit (propertyAt file at .phased) (fieldB file at) && zerosOf file (8 * at + 4) 4
 
--- "07 edge: a transition, b from, c to, d = 0 single, 1 double"
+-- C1.14, C1.15: an edge's
 unfoldable pub edgeFields : List ℕ → ℕ → ℕ → ℕ → Bool
 edgeFields file transitions nodes at =
     ltb (fieldA file at) transitions && ltb (fieldB file at) nodes && ltb (fieldC file at) nodes && leb (fieldD file at) 1 && zerosOf file (8 * at + 7) 1
 
--- the edge itself
+-- C1.14: the edge itself
 unfoldable pub edgeAt : List ℕ → ℕ → Edge
 edgeAt file at = record { transition = fieldA file at; from = fieldB file at; to = fieldC file at; double = eqb (fieldD file at) 1 }
 
--- ---- sections: "A variable, transition, node, edge or nesting level is one past its limit" (5), "A transition assigns a variable again, or an edge
--- repeats a, b and c" (6)
--- items that begin with a record of `kind`, as long as there is one: n before `at`, and at most `left` more. `fields` tests an item's
--- first record, and `item` walks the item
+-- ---- sections: kinds (3), limits (5), repetitions (6)
+-- C1.5, C10.4, C10.5, C11.3: items that begin with a record of `kind`, as long as there is one: n before `at`, and at most `left` more. `fields` tests an
+-- item's first record, and `item` walks the item
 unfoldable pub itemsOf : List ℕ → ℕ → (ℕ → Bool) → (ℕ → Walked) → ℕ → ℕ → ℕ → Section
 itemsOf file kind fields item zero n at =
     cond (kindIs file kind at) (cond (fields at) (Section.Refused 5 at) (Section.Refused 4 at)) (Section.Items n at)
@@ -68,11 +68,11 @@ itemsOf file kind fields item (suc left) n at =
     (cond (fields at) (andThen Section.Refused (item at) (itemsOf file kind fields item left (n + 1))) (Section.Refused 4 at))
     (Section.Items n at)
 
--- "1 to 12 of them"
+-- C1.6: up to 12
 unfoldable pub variablesOf : List ℕ → Section
 variablesOf file = itemsOf file 0x01 (variableFields file) (λ at. Walked.End (at + 1)) 12 0 0
 
--- a transition's assignments. `assigned` has 1 at each variable that was assigned; after 12 of them the next one repeats one
+-- C1.9, C10.6: of a transition. `assigned` has 1 at each variable that was assigned; after 12 of them the next one repeats one
 unfoldable pub assignmentsOf : List ℕ → ℕ → ℕ → List ℕ → ℕ → Walked
 assignmentsOf file vars zero assigned at =
     cond (kindIs file 0x04 at) (cond (assignmentFields file vars at) (Walked.Refused 6 at) (Walked.Refused 4 at)) (Walked.End at)
@@ -85,37 +85,38 @@ assignmentsOf file vars (suc left) assigned at =
     (Walked.Refused 4 at))
     (Walked.End at)
 
--- "then its guard (truth), then any 04 records"
+-- C1.8: guard, then assignments
 unfoldable pub transitionOf : List ℕ → ℕ → ℕ → Walked
 transitionOf file vars at = andThen Walked.Refused (walkOf file vars 16 truth (at + 1)) (assignmentsOf file vars 12 (replicate 12 0))
 
--- "0 to 32 transitions"
+-- C1.8: up to 32
 unfoldable pub transitionsOf : List ℕ → ℕ → ℕ → Section
 transitionsOf file vars at = itemsOf file 0x03 (transitionFields file) (transitionOf file vars) 32 0 at
 
--- "06 node, then its assertion (truth): 1 to 32; for wait-for exactly b": as many as the property at `at` counts phases, or else the limit
+-- C1.13: as many nodes as the property at `at` counts phases, or else the limit
 unfoldable pub phasesOr : List ℕ → ℕ → ℕ → ℕ
 phasesOr file at limit = cond (propertyAt file at .phased) (fieldB file at) limit
 
--- how many expressions follow the property: "then q"; "then p, q_0, q_1 and on to q_m, m = b - 1"; "then p, q"
+-- C1.12: how many truths follow the property: p where there is one, and the q's
 unfoldable pub expressionsOf : List ℕ → ℕ → ℕ
 expressionsOf file at = cond (propertyAt file at .entry) 1 0 + phasesOr file at 1
 
--- its assertion, and then its ranks, numbers
+-- C1.13: its assertion; then its ranks, of which no property has any
 abbrev pub nodeOf : List ℕ → ℕ → ℕ → ℕ → Walked
 nodeOf file vars ranks at = andThen Walked.Refused (truthOf file vars (at + 1)) (inSequence (walkOf file vars 16 number) ranks)
 
+-- C1.13: up to `most`
 unfoldable pub nodesOf : List ℕ → ℕ → ℕ → ℕ → ℕ → Section
 nodesOf file vars ranks most at = itemsOf file 0x06 (noFields file) (nodeOf file vars ranks) most 0 at
 
--- one of the n edges from `first` on has the a, b and c of the edge at `at`
+-- C10.6: one of the n edges from `first` on has the a, b and c of the edge at `at`
 unfoldable pub repeatedOf : List ℕ → ℕ → ℕ → ℕ → Bool
 repeatedOf file at first n = any (λ e. sameBytes file (8 * e + 1) (8 * at + 1) 5) n first
 
--- an edge repeats none of those before it; `first` is the first edge's record
+-- C10.6: an edge repeats none of those before it; `first` is the first edge's record
 abbrev pub edgeOf : List ℕ → ℕ → ℕ → Walked
 edgeOf file first at = cond (repeatedOf file at first (at - first)) (Walked.Refused 6 at) (Walked.End (at + 1))
 
--- "0 to 512"
+-- C1.14: up to 512
 unfoldable pub edgesOf : List ℕ → ℕ → ℕ → ℕ → Section
 edgesOf file transitions nodes first = itemsOf file 0x07 (edgeFields file transitions nodes) (edgeOf file first) 512 0 first

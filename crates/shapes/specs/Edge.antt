@@ -4,6 +4,6 @@ use Prim.Native.Nat.{ℕ}
 use lib.Dec.{eqb}
 use Rattle.shapes.specs.declared.Edge.{Edge}
 
--- it is a double edge from the node
+-- for C9.9: it is a double edge from the node
 unfoldable pub doubleFrom : ℕ → Edge → Bool
 doubleFrom node e = e .double && eqb (e .from) node

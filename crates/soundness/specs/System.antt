@@ -11,6 +11,7 @@ use Rattle.diagrams.specs.System.{justOf, guardHolds, valuesFit, nextState}
 use Rattle.runs.specs.Run.{System}
 use Rattle.runs.specs.Claim.{Invariance, WaitFor, Chain, InRange}
 
+-- for C7.9: the file's states, start and transitions
 abbrev pub systemOf : List ℕ → Diagram → System
 systemOf file g =
     record {
@@ -24,8 +25,7 @@ systemOf file g =
       Assigns = λ t s s′. s′ ≡ nextState file g t s;
     }
 
--- what is claimed: "a = 1 invariance ..", "a = 2 wait-for, b = 1..32 the count of phases, .. m = b - 1", "a = 3 chain", where a wait-for has "exactly b"
--- nodes. "Node 0 is the goal in wait-for and chain." There is no other kind
+-- C7.9, C8.2: by what the property claims; the m of a wait-for is its number of nodes less one (C1.11, C1.13). Another claim is never true
 unfoldable pub Claimed : List ℕ → Diagram → Kind → Type 0
 Claimed file g Kind.Invariance = Invariance (systemOf file g) (qHolds file g 0) × InRange (systemOf file g) 0 (g .nodes) (nodeHolds file g)
 Claimed file g Kind.WaitFor =
@@ -34,7 +34,7 @@ Claimed file g Kind.Chain =
     Chain (systemOf file g) (g .nodes) (nodeHolds file g) (pHolds file g) (qHolds file g 0) × InRange (systemOf file g) 1 (g .nodes) (nodeHolds file g)
 Claimed file g Kind.Unknown = ⊥
 
--- the claim of a file: it is readable, and what it claims is true
+-- C12.11: the file is readable, and what it claims is true
 pub record Claim (file : List ℕ) : Type 0 where
   pub diagram : Diagram
   pub readable : Readable file diagram

@@ -1,26 +1,26 @@
--- "States are numbered with the last variable fastest, each variable's low end first."
+-- How many states there are, and their numbers.
 use mathlib.Core.List.{List, [], _∷_}
 use Prim.Native.Nat.{ℕ, _+_, _*_, _/_, _%_}
 use lib.IntN.{ℤ}
 use Rattle.integers.specs.Radix.{at, offsetOf}
 
--- how many values a range has
+-- C4.3: how many values a range has
 unfoldable pub sizeOf : ℤ → ℤ → ℕ
 sizeOf low high = offsetOf low high + 1
 
--- how many states there are: the product of the ranges
+-- C4.3: how many states there are, the product of these
 unfoldable pub countOf : List ℤ → List ℤ → ℕ
 countOf [] highs = 1
 countOf (low ∷ lows) [] = 1
 countOf (low ∷ lows) (high ∷ highs) = sizeOf low high * countOf lows highs
 
--- the state of a number
+-- C4.4: the state with a number: the last variable is the fastest, each from its low end up
 unfoldable pub stateOf : List ℤ → List ℤ → ℕ → List ℤ
 stateOf [] highs n = []
 stateOf (low ∷ lows) [] n = []
 stateOf (low ∷ lows) (high ∷ highs) n = at low (n / countOf lows highs) ∷ stateOf lows highs (n % countOf lows highs)
 
--- the number of a state
+-- C4.4: the number of a state
 unfoldable pub numberOf : List ℤ → List ℤ → List ℤ → ℕ
 numberOf [] highs state = 0
 numberOf (low ∷ lows) [] state = 0

@@ -1,4 +1,4 @@
--- Whether a condition holds at a state, by the sentences of "Conditions".
+-- Whether a condition holds in a state.
 use mathlib.Core.Bool.{Bool, not, _&&_, _||_}
 use mathlib.Core.List.{List}
 use Prim.Native.Nat.{ℕ}
@@ -13,22 +13,19 @@ use Rattle.conditions.specs.Edges.{carries, isDouble}
 use Rattle.conditions.specs.declared.Condition.{Condition}
 use Rattle.conditions.specs.declared.Condition.the-variants.{Start, Entry, Cover, Range, Step, Enabling}
 
--- "satisfies some node"
+-- for C8.7, C8.8: the state satisfies a node
 unfoldable pub someNode : List ℕ → Diagram → List ℤ → Bool
 someNode file g state = any (λ n. nodeHolds file g n state) (g .nodes) 0
 
--- "a target of an edge so labelled from it": of transition t from node n
+-- for C8.11: it satisfies the target of an edge that carries transition t from node n
 unfoldable pub someTarget : List ℕ → Diagram → ℕ → ℕ → List ℤ → Bool
 someTarget file g n t state = any (λ e. carries n t (edgeOf file g e) && nodeHolds file g (edgeOf file g e .to) state) (g .edges) 0
 
--- what a step of transition t from node n must lead to: "the successor satisfies the node itself or a target of an edge so labelled from it; by double
--- edges, one of the targets and not merely the node itself"
+-- C8.11, C8.12: where a step of transition t from node n may lead: to the node, unless the edges are double, or to a target
 unfoldable pub stepLeads : List ℕ → Diagram → ℕ → ℕ → List ℤ → Bool
 stepLeads file g n t next = (not (isDouble file g n t) && nodeHolds file g n next) || someTarget file g n t next
 
--- "start (a starting state satisfies some node)", "entry (p implies some node)", "cover .. (node implies q)", "(node i implies q_i)", "of node 0 (it
--- implies q)", "range (node and guard imply all values in range)". "Step: where the node holds and the transition is enabled", its successor is such a
--- state. "enabling, of the node and that transition (node implies it enabled)"
+-- C8.7 to C8.11, C8.13: by the kind of condition
 unfoldable pub conditionHolds : List ℕ → Diagram → Condition → List ℤ → Bool
 conditionHolds file g Start state = implies (startHolds file g state) (someNode file g state)
 conditionHolds file g Entry state = implies (pHolds file g state) (someNode file g state)

@@ -1,4 +1,4 @@
--- "A program reads the file from standard input and prints the report as 64 small hexadecimal digits and a line feed."
+-- What the program prints.
 use Prim.Native.Nat.{ℕ, _+_, _/_, _%_}
 use mathlib.Core.Path.{_≡_}
 use mathlib.Core.Bool.{cond}
@@ -8,22 +8,23 @@ use lib.ListN.{replicate}
 use Rattle.verdicts.specs.Verdict.{checkOf}
 use Rattle.report.specs.Report.{reportOf}
 
--- 0 to 9, then a to f, in ASCII
+-- for C15.1: 0 to 9, then a to f, in ASCII
 unfoldable pub digitOf : ℕ → ℕ
 digitOf number = cond (ltb number 10) (number + 48) (number + 87)
 
--- two digits for each byte, the high one first
+-- for C15.1: two digits for each byte, the high one first
 unfoldable pub digitsOf : List ℕ → List ℕ
 digitsOf [] = []
 digitsOf (byte ∷ bytes) = digitOf (byte / 16) ∷ (digitOf (byte % 16) ∷ digitsOf bytes)
 
+-- for C15.1: and a line feed
 unfoldable pub lineOf : List ℕ → List ℕ
 lineOf report = digitsOf report ++ (10 ∷ [])
 
--- the check's report on the file, in a buffer of 32 bytes
+-- C15.1: the line for a file: the check's report, in a buffer of 32 bytes
 unfoldable pub printedOf : List ℕ → List ℕ
 printedOf file = lineOf (reportOf (checkOf file 32) (replicate 32 0))
 
--- --tests, in ASCII, is the one argument; `count` counts the program's name too
+-- C15.2: --tests, in ASCII, is the one argument; `count` counts the program's name too
 abbrev pub TestsAsked : ℕ → List ℕ → Type 0
 TestsAsked count argument = (count ≡ 2) × (argument ≡ 45 ∷ 45 ∷ 116 ∷ 101 ∷ 115 ∷ 116 ∷ 115 ∷ [])

@@ -1,6 +1,4 @@
-// Reads a file from standard input and prints the report of its check: 64 small hexadecimal digits and a line feed. With the argument --tests a second
-// line has the tests, in decimal. An input that can't be read to its end gets no report, nor do other arguments, and an output that can't be written
-// says so: the reason goes to standard error.
+// The program: a file comes in, the report of its check goes out as digits, and behind it, if asked, the tests (C15).
 use libc::STDERR_FILENO;
 use libc::STDIN_FILENO;
 use libc::STDOUT_FILENO;
@@ -34,7 +32,7 @@ fn receive_some(buffer: &mut [u8], from: usize) -> Received
     }
 }
 
-// Reads standard input until it ends, the buffer is full, or a read fails.
+// Reads standard input until it ends, the buffer is full, or a read fails (C15.4).
 fn receive(buffer: &mut [u8]) -> Received
     ensures { λ r. ⌜ Counts (r .length) (now (buffer .exit)) ⌝ }
 {
@@ -51,7 +49,7 @@ fn receive(buffer: &mut [u8]) -> Received
     Received { length, failed }
 }
 
-// Whether the program is asked for the tests, by how many arguments it has, its own name among them, and its first.
+// Whether the program is asked for the tests (C15.2), by how many arguments it has, its own name among them, and its first.
 fn tests_asked(count: usize, argument: &[u8]) -> bool
     ensures { λ r. ⌜ (r ≡ true) ↔ TestsAsked count (now (argument .entry)) ⌝ }
 {
@@ -61,6 +59,8 @@ fn tests_asked(count: usize, argument: &[u8]) -> bool
     check::same(argument, b"--tests")
 }
 
+// No report where the arguments are others or a read fails (C15.5); the reason where the output can't be written (C15.6); the tests if asked (C15.8).
+// A program of the kit ends with status 0 (C15.9).
 fn main() {
     // An argument that is longer leaves a length of 0.
     let mut argument = [0u8; 7];

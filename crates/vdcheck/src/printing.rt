@@ -55,7 +55,7 @@ pub(crate) struct Printout {
     pub(crate) tests: u64,
 }
 
-// What is printed for a file. A line that begins with 00 is an acceptance, and what the file claims is then true.
+// What is printed for a file. A line that begins with 00 is an acceptance, and what the file claims is then true (C15.3).
 pub(crate) fn printed(file: &[u8]) -> Printout
     ensures line { λ r. ⌜ r .line ≡ printedOf (now (file .entry)) ⌝ }
     ensures tests { λ r. ⌜ r .tests ≡ checkOf (now (file .entry)) 32 .tests ⌝ }

@@ -17,6 +17,7 @@ pub struct Tested {
     pub holds: bool,
 }
 
+// The check, for C and Rust: what `judging::check` promises, every call an answer (C12.8).
 #[no_mangle]
 pub extern "C" fn vd_check(file: &[u8], report: &mut [u8]) -> Verdict
     ensures result { λ r. ⌜ r ≡ checkOf (now (file .entry)) (length (now (report .entry))) ⌝ }
@@ -27,6 +28,7 @@ pub extern "C" fn vd_check(file: &[u8], report: &mut [u8]) -> Verdict
     judging::check(file, report)
 }
 
+// The single test, for C and Rust (C12.8, C13.4).
 #[no_mangle]
 pub extern "C" fn vd_single(file: &[u8], condition: usize, state: usize) -> Tested
     ensures { λ r. ⌜ r ≡ testedOf (singleOf (now (file .entry)) condition state) ⌝ }

@@ -18,7 +18,7 @@ pub struct Large {
 }
 
 impl Large {
-    /// Whether this is the answer.
+    /// C12.3, C12.7: whether this is the answer.
     pub fn expects(&self, verdict: &Verdict) -> bool {
         (verdict.number, verdict.at, verdict.tests) == (self.number, self.at, self.tests)
     }

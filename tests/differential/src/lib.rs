@@ -1,4 +1,4 @@
-//! Compares the proved checker (`vd`) with another implementation of documents 01 and 02
+//! Compares the proved checker (`vd`) with another implementation of docs/SPECIFICATION.md
 //! (`independent`): the check, its tests, its report and its buffer, and single tests.
 
 pub mod compare;

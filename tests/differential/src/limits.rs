@@ -94,12 +94,13 @@ fn double_edges(nodes: usize) -> Vec<Edge> {
     (1..nodes).map(edge).collect()
 }
 
-/// The records with a field set that a kind doesn't name.
+/// C1.4: the records with byte 7 set in one.
 fn with_field(mut records: Vec<Record>, place: usize) -> Vec<Record> {
     records[place][7] = 1;
     records
 }
 
+/// C1.6, C10.5, C11.3.
 fn variables(list: &mut List) {
     let variables = |count| {
         let mut draft = draft(INVARIANCE, 1);
@@ -111,6 +112,7 @@ fn variables(list: &mut List) {
     list.refused("field of variable 13", with_field(variables(13), 12), 4, 12);
 }
 
+/// C1.8, C10.5, C11.3.
 fn transitions(list: &mut List) {
     for property in [INVARIANCE, WAIT_FOR, CHAIN] {
         let transitions = |count| {
@@ -127,6 +129,7 @@ fn transitions(list: &mut List) {
     }
 }
 
+/// C1.11, C1.13, C10.5, C11.3, C11.4, C11.5.
 fn nodes(list: &mut List) {
     let invariance = |count| draft(INVARIANCE, count).records();
     let chain = |count| {
@@ -176,6 +179,7 @@ fn nodes(list: &mut List) {
     }
 }
 
+/// C1.14, C10.5, C10.6, C11.2, C11.3.
 fn edges(list: &mut List) {
     let edges = |count| {
         let mut draft = draft(INVARIANCE, 32);
@@ -203,6 +207,7 @@ fn edges(list: &mut List) {
     list.refused("edge 512 repeats", repeat, 6, place - 1);
 }
 
+/// C10.2.
 fn records(list: &mut List) {
     let records = |count| {
         let mut draft = draft(INVARIANCE, 1);
@@ -235,6 +240,7 @@ fn nested_number(levels: usize, left: bool) -> Code {
     number
 }
 
+/// C2.12, C10.5, C11.3.
 fn levels(list: &mut List) {
     // Where a truth may stand, by the number of its first record.
     type Place = fn(&mut Draft) -> &mut Code;
@@ -298,6 +304,7 @@ fn levels(list: &mut List) {
     }
 }
 
+/// C4.3, C10.7.
 fn states(list: &mut List) {
     let widest = (i16::MIN, i16::MAX);
     let states = |ranges: &[(i16, i16)]| {
@@ -321,7 +328,7 @@ fn states(list: &mut List) {
     list.refused("2 to the 48 states", states(&[widest; 3]), 7, 1);
 }
 
-/// Intervals that end at a bound, and one past it.
+/// C3.1, C3.2, C3.3, C3.4, C10.8: intervals that end at a bound, and one past it.
 fn intervals(list: &mut List) {
     // A number is compared with 0 in the start; its first record is record 3.
     let start = |number: Code| {

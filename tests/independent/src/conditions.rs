@@ -1,4 +1,4 @@
-//! The conditions, their order and what each demands of a state (document 01, "Conditions").
+//! The conditions, their order and what each demands of a state (C8).
 
 use crate::evaluate::{assigned, successor, truth};
 use crate::file::{Claim, File, Transition, Truth, Variable};
@@ -16,7 +16,7 @@ pub enum Condition {
 }
 
 impl Condition {
-    /// The refusal number where the condition is broken.
+    /// The number where it is broken: C10.13, C10.14, C10.15, C10.16, C10.17, C10.18.
     pub fn number(&self) -> u8 {
         match self {
             Condition::Start => 13,
@@ -28,6 +28,7 @@ impl Condition {
         }
     }
 
+    /// C12.3: start and entry have no node.
     pub fn node(&self) -> Option<usize> {
         match *self {
             Condition::Start | Condition::Entry => None,
@@ -38,6 +39,7 @@ impl Condition {
         }
     }
 
+    /// C12.3: nor has a cover a transition.
     pub fn transition(&self) -> Option<usize> {
         match *self {
             Condition::Start | Condition::Entry | Condition::Cover { .. } => None,
@@ -49,7 +51,7 @@ impl Condition {
 }
 
 impl File {
-    /// The conditions, as they are numbered.
+    /// C8.3, C8.4, C8.5, C8.6: the conditions, as they are numbered. C8.2: node 0 may be a goal.
     pub fn conditions(&self) -> Vec<Condition> {
         let invariance = matches!(self.claim, Claim::Invariance { .. });
         let chain = matches!(self.claim, Claim::Chain { .. });
@@ -69,7 +71,7 @@ impl File {
         list
     }
 
-    /// By transition: range, step, and enabling after the step of the double transition.
+    /// C8.6: by transition, range, step, and enabling behind the step of the double transition.
     fn conditions_of_node(&self, node: usize, list: &mut Vec<Condition>) {
         let double = self.double_transition(node);
         for transition in 0..self.transitions.len() {
@@ -81,7 +83,7 @@ impl File {
         }
     }
 
-    /// What opens the diagram: the start for an invariance, else p.
+    /// C8.7, C8.8: what opens the diagram, the start for an invariance, else p.
     fn opening(&self) -> &Truth {
         match &self.claim {
             Claim::Invariance { .. } => &self.start,
@@ -89,7 +91,7 @@ impl File {
         }
     }
 
-    /// What a node must imply: q, for wait-for its own phase's.
+    /// C8.9: what a node must imply, its q.
     fn phase(&self, node: usize) -> &Truth {
         match &self.claim {
             Claim::Invariance { q } | Claim::Chain { q, .. } => q,
@@ -97,8 +99,8 @@ impl File {
         }
     }
 
-    /// Where a step may lead: by double edges to their targets, "not merely the node itself";
-    /// else to the node itself too.
+    /// C8.11: where a step may lead, to the node itself or a target. C8.12: by double edges to a
+    /// target only.
     fn destinations(&self, node: usize, transition: usize) -> Vec<&Truth> {
         let mut nodes: Vec<usize> = Vec::new();
         let double = self.edges_from(node, transition).any(|edge| edge.double);
@@ -110,25 +112,25 @@ impl File {
     }
 }
 
-/// What a condition demands of each state, its expressions looked up once.
+/// C8.14: what a condition demands of each state, its expressions looked up once.
 pub enum Obligation<'a> {
-    /// The premise implies one of the assertions.
+    /// C8.7, C8.8, C8.9: the premise implies one of the assertions.
     Implication {
         premise: &'a Truth,
         any: Vec<&'a Truth>,
     },
-    /// Node and guard imply all assigned values in range.
+    /// C8.10: node and guard imply all assigned values in range.
     Range {
         node: &'a Truth,
         transition: &'a Transition,
     },
-    /// Where the node holds and the transition is enabled, the successor satisfies one of these.
+    /// C8.11: from the node, an enabled transition leads to one of these.
     Step {
         node: &'a Truth,
         transition: &'a Transition,
         any: Vec<&'a Truth>,
     },
-    /// The node implies the transition enabled.
+    /// C8.13: the node implies the transition enabled.
     Enabling {
         node: &'a Truth,
         transition: &'a Transition,

@@ -1,9 +1,9 @@
-//! Edge rules; refusals 9 and 10.
+//! The edge rules, C9.1 to C9.9; refusals 9 and 10.
 
 use crate::file::{Claim, Edge, File};
 use crate::refusal::{Refusal, EDGE_RULE, NO_DOUBLE};
 
-/// Refusal 9: an edge breaks an edge rule, given the edges before it.
+/// C10.9: each edge is judged with those before it.
 pub fn check_rules(file: &File) -> Result<(), Refusal> {
     for (number, edge) in file.edges.iter().enumerate() {
         let before = &file.edges[..number];
@@ -14,6 +14,7 @@ pub fn check_rules(file: &File) -> Result<(), Refusal> {
     Ok(())
 }
 
+/// C9.1, C9.4: only a chain has double edges.
 fn obeys(file: &File, edge: &Edge, before: &[Edge]) -> bool {
     match file.claim {
         Claim::Invariance { .. } => !edge.double,
@@ -23,15 +24,14 @@ fn obeys(file: &File, edge: &Edge, before: &[Edge]) -> bool {
     }
 }
 
-/// "from node 1 up, target not above source"
+/// C9.2, C9.3: not from the goal, and not upward.
 fn leads_on(edge: &Edge) -> bool {
     let from_goal = edge.from == 0;
     let upward = edge.to > edge.from;
     !from_goal && !upward
 }
 
-/// "double strictly down, on just transitions, one double transition per node, never also
-/// single there"
+/// C9.5, C9.6, C9.7, C9.8, in this order.
 fn double_obeys(file: &File, edge: &Edge, before: &[Edge]) -> bool {
     let down = edge.to < edge.from;
     let just = file.transitions[edge.transition].just;
@@ -40,7 +40,7 @@ fn double_obeys(file: &File, edge: &Edge, before: &[Edge]) -> bool {
     down && just && !second && !also_single
 }
 
-/// A single edge's transition has no double edge there; its target may be its own node.
+/// C9.8: a single edge's transition has no double edge there; its target may be its own node.
 fn single_obeys(edge: &Edge, before: &[Edge]) -> bool {
     let also_double = from_same_node(edge, before).any(|one| one.double && same_label(one, edge));
     !also_double
@@ -55,7 +55,7 @@ fn same_label(one: &Edge, other: &Edge) -> bool {
     one.transition == other.transition
 }
 
-/// Refusal 10: the lowest chain node from 1 up that lacks its double edge.
+/// C9.9, C10.10: the lowest node of a chain, but for the goal, without a double edge.
 pub fn check_doubles(file: &File) -> Result<(), Refusal> {
     let chain = matches!(file.claim, Claim::Chain { .. });
     let mut nodes = 1..file.nodes.len();

@@ -1,10 +1,11 @@
-//! Evaluating expressions and transitions at a state (document 01, "States, steps, runs").
+//! Evaluating expressions and transitions at a state.
 //!
-//! The intervals keep every number within -1,000,000..1,000,000.
+//! C3.6: the intervals keep every number within -1,000,000..1,000,000.
 
 use crate::file::{Number, Transition, Truth, Variable};
 use crate::states::State;
 
+/// C2.3, C2.4, C2.5, C2.6: what a number is worth.
 pub fn number(expression: &Number, state: &State) -> i32 {
     match expression {
         Number::Constant(value) => *value,
@@ -16,6 +17,7 @@ pub fn number(expression: &Number, state: &State) -> i32 {
     }
 }
 
+/// C2.7, C2.8, C2.9, C2.10: whether a truth is true.
 pub fn truth(expression: &Truth, state: &State) -> bool {
     match expression {
         Truth::True => true,
@@ -31,8 +33,8 @@ pub fn truth(expression: &Truth, state: &State) -> bool {
     }
 }
 
-/// The state with the assigned values, "worked out from s together", if all lie in range;
-/// the guard is not asked.
+/// C5.1, C5.3: the state with the assigned values, all worked out from the same state, if they lie
+/// in range; the guard is not asked.
 pub fn assigned(transition: &Transition, ranges: &[Variable], state: &State) -> Option<State> {
     let mut next = *state;
     for assignment in &transition.assignments {
@@ -42,7 +44,7 @@ pub fn assigned(transition: &Transition, ranges: &[Variable], state: &State) -> 
     Some(next)
 }
 
-/// The successor, if the transition is enabled: guard true and all assigned values in range.
+/// C5.2: the successor, if the transition is enabled: guard true and all assigned values in range.
 pub fn successor(transition: &Transition, ranges: &[Variable], state: &State) -> Option<State> {
     if truth(&transition.guard, state) {
         assigned(transition, ranges, state)

@@ -1,6 +1,6 @@
 //! A file as a data structure: what reading yields.
 
-/// A variable's range, both ends included.
+/// C1.6: a variable's range, both ends included.
 #[derive(Clone, Copy, Debug, PartialEq, Eq)]
 pub struct Variable {
     pub low: i16,
@@ -8,13 +8,13 @@ pub struct Variable {
 }
 
 impl Variable {
-    /// How many values the range has.
+    /// C4.3: how many values the range has.
     pub fn size(&self) -> usize {
         (i32::from(self.high) - i32::from(self.low) + 1) as usize
     }
 }
 
-/// A number expression.
+/// C2.3, C2.4, C2.5, C2.6: a number expression.
 #[derive(Clone, Debug, PartialEq, Eq)]
 pub enum Number {
     Constant(i32),
@@ -33,7 +33,7 @@ pub struct Pair {
     pub right: Number,
 }
 
-/// A truth expression.
+/// C2.7, C2.8, C2.9, C2.10: a truth expression.
 #[derive(Clone, Debug, PartialEq, Eq)]
 pub enum Truth {
     True,
@@ -48,12 +48,14 @@ pub enum Truth {
     AtMost(Box<(Number, Number)>),
 }
 
+/// C1.9.
 #[derive(Clone, Debug, PartialEq, Eq)]
 pub struct Assignment {
     pub variable: usize,
     pub value: Number,
 }
 
+/// C1.8; C5.5: whether it is just.
 #[derive(Clone, Debug, PartialEq, Eq)]
 pub struct Transition {
     pub just: bool,
@@ -61,7 +63,7 @@ pub struct Transition {
     pub assignments: Vec<Assignment>,
 }
 
-/// The property, by diagram kind.
+/// C1.10, C1.12: the property, by what it claims.
 #[derive(Clone, Debug, PartialEq, Eq)]
 pub enum Claim {
     Invariance { q: Truth },
@@ -69,7 +71,7 @@ pub enum Claim {
     Chain { p: Truth, q: Truth },
 }
 
-/// An edge, and the number of its record.
+/// C1.14: an edge, and the number of its record.
 #[derive(Clone, Copy, Debug, PartialEq, Eq)]
 pub struct Edge {
     pub place: usize,
@@ -79,7 +81,7 @@ pub struct Edge {
     pub double: bool,
 }
 
-/// A file, its parts in file order; the nodes are their assertions.
+/// C1.5: a file, its parts in file order; the nodes are their assertions.
 #[derive(Clone, Debug, PartialEq, Eq)]
 pub struct File {
     pub variables: Vec<Variable>,
@@ -91,7 +93,7 @@ pub struct File {
 }
 
 impl File {
-    /// The number of states: the product of the ranges.
+    /// C4.3: the number of states.
     pub fn states(&self) -> usize {
         self.variables.iter().map(Variable::size).product()
     }
@@ -102,7 +104,7 @@ impl File {
         self.edges.iter().filter(labelled)
     }
 
-    /// The transition of the node's double edges, if it has any.
+    /// The transition of the node's double edges, if it has any. C9.7: there is one at most.
     pub fn double_transition(&self, node: usize) -> Option<usize> {
         let mut doubles = self.edges.iter().filter(|edge| edge.double);
         let edge = doubles.find(|edge| edge.from == node)?;

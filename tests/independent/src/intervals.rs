@@ -11,7 +11,7 @@ struct Interval {
     high: i64,
 }
 
-/// Judges all expressions in file order.
+/// C3.5: judges all expressions in file order.
 pub fn check_expressions(file: &File) -> Result<(), Refusal> {
     let ranges = &file.variables;
     check_truth(&file.start, ranges)?;
@@ -45,7 +45,7 @@ fn check_truths(truths: &[Truth], ranges: &[Variable]) -> Result<(), Refusal> {
         .try_for_each(|truth| check_truth(truth, ranges))
 }
 
-/// A truth has no interval of its own; the numbers within it have.
+/// C3.5: a truth has no interval of its own; the numbers within it have.
 fn check_truth(truth: &Truth, ranges: &[Variable]) -> Result<(), Refusal> {
     match truth {
         Truth::True | Truth::False => Ok(()),
@@ -62,7 +62,7 @@ fn check_truth(truth: &Truth, ranges: &[Variable]) -> Result<(), Refusal> {
     }
 }
 
-/// A number's interval, "operands judged first, left before right".
+/// C3.1, C3.2: a number's interval. C3.5: an operand's is judged before its record's.
 fn interval(number: &Number, ranges: &[Variable]) -> Result<Interval, Refusal> {
     match number {
         Number::Constant(value) => Ok(exactly(*value)),
@@ -92,7 +92,7 @@ fn range(variable: Variable) -> Interval {
     }
 }
 
-/// "the least and greatest result over the operands' ends"
+/// C3.3: the operation at all four pairs of ends. C3.4, C10.8: its interval is in the bounds.
 fn combined(
     pair: &Pair,
     ranges: &[Variable],

@@ -1,4 +1,5 @@
-//! The verification diagram checker of documents 01 and 02, written from them alone.
+//! The verification diagram checker, written from the specification alone. C1.1 and the like are
+//! clauses of docs/SPECIFICATION.md, each cited where it is rendered.
 //!
 //! Layers, from below: the records and their reading ([`read`]), the evaluating of
 //! expressions and transitions, the conditions and their judging ([`check`], [`single`]).
@@ -16,14 +17,15 @@ mod report;
 mod states;
 
 pub use conditions::Condition;
+pub use evaluate::{successor, truth};
 pub use file::{Assignment, Claim, Edge, File, Number, Pair, Transition, Truth, Variable};
 pub use refusal::Refusal;
 pub use report::{Verdict, REPORT_LENGTH};
-pub use states::State;
+pub use states::{all as states, State};
 
 use conditions::Obligation;
 
-/// A single test's answer.
+/// C13.1: a single test's answer.
 #[derive(Clone, Copy, Debug, PartialEq, Eq)]
 pub enum Tested {
     Holds,
@@ -31,7 +33,8 @@ pub enum Tested {
     Refused { number: u8, place: u32 },
 }
 
-/// Reads a file: refusals 2 to 10, in the order of "Numbers of refusal".
+/// C11.1, C11.6: reads a file. Refusals 2 to 10, each tried for the whole file before the next, but
+/// 3 to 6 record by record.
 pub fn read(file: &[u8]) -> Result<File, Refusal> {
     records::check_length(file)?;
     let file = parse::parse(file)?;
@@ -42,8 +45,8 @@ pub fn read(file: &[u8]) -> Result<File, Refusal> {
     Ok(file)
 }
 
-/// The check: the verdict, and the report in the buffer's first 32 bytes
-/// (nothing written if it is shorter).
+/// C12.1: the check. The verdict, and the report in the buffer's first 32 bytes. C10.1, C14.4: with
+/// a shorter one nothing is written.
 pub fn check(file: &[u8], report: &mut [u8]) -> Verdict {
     if report.len() < REPORT_LENGTH {
         return Verdict::refused(Refusal::new(refusal::BUFFER, 0));
@@ -61,8 +64,8 @@ fn verdict(file: &[u8]) -> Verdict {
     }
 }
 
-/// "If conditions are broken, the lowest is given", with its lowest breaking state. The tests are
-/// counted as they are made: condition by condition, state by state.
+/// C12.4, C12.5: the lowest broken condition and the lowest state that breaks it. C12.10: the tests
+/// are counted as they are made, condition by condition, state by state.
 fn judge(file: &File) -> Verdict {
     let conditions = file.conditions();
     let mut tests = 0;
@@ -78,7 +81,7 @@ fn judge(file: &File) -> Verdict {
     Verdict::accepted(conditions.len(), tests)
 }
 
-/// The single test of one condition at one state: refusals 2 to 12, else holds or fails.
+/// C13.1: the single test of one condition at one state.
 pub fn single(file: &[u8], condition: usize, state: usize) -> Tested {
     match test(file, condition, state) {
         Ok(true) => Tested::Holds,
@@ -87,6 +90,7 @@ pub fn single(file: &[u8], condition: usize, state: usize) -> Tested {
     }
 }
 
+/// C13.2, C13.3: refusals 2 to 10, then C10.11, then C10.12; else whether the condition holds.
 fn test(file: &[u8], condition: usize, state: usize) -> Result<bool, Refusal> {
     let file = read(file)?;
     let conditions = file.conditions();

@@ -5,7 +5,7 @@ use crate::refusal::{Refusal, STATES};
 
 const MOST_STATES: usize = 1_048_576;
 
-/// "The ranges' product, built up by variable"; the place is the variable that passes the limit.
+/// C10.7: the sizes multiplied from variable 0 on; the place is the variable that passes the limit.
 pub fn check_states(file: &File) -> Result<(), Refusal> {
     let mut product = 1;
     for (number, variable) in file.variables.iter().enumerate() {

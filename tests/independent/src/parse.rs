@@ -1,4 +1,4 @@
-//! Reading the records into a [`File`]; refusals 3 to 6, tried in that order at each record.
+//! Reading the records into a [`File`]. C11.2: refusals 3 to 6, in order, record by record.
 
 use crate::file::{Assignment, Claim, Edge, File, Number, Pair, Transition, Truth, Variable};
 use crate::records::*;
@@ -11,6 +11,7 @@ const MOST_PHASES: i16 = 32;
 const MOST_EDGES: usize = 512;
 const MOST_LEVELS: usize = 16;
 
+/// C1.5: the sections, in their order.
 pub fn parse(file: &[u8]) -> Result<File, Refusal> {
     let mut parser = Parser::new(file);
     let variables = parser.variables()?;
@@ -57,29 +58,29 @@ impl<'a> Parser<'a> {
         }
     }
 
-    /// 3: a record's kind doesn't fit its place, or the file ends early.
+    /// C10.3: the kind can stand there.
     fn fits(&self, met: bool) -> Result<(), Refusal> {
         self.demand(met, KIND)
     }
 
-    /// 4: a field has a value not allowed, or names what the file lacks.
+    /// C10.4: the fields have values that are allowed.
     fn fields(&self, met: bool) -> Result<(), Refusal> {
         self.demand(met, FIELD)
     }
 
-    /// 5: one past a limit.
+    /// C10.5: not one past a limit. C11.3: tried behind the two above.
     fn within(&self, met: bool) -> Result<(), Refusal> {
         self.demand(met, LIMIT)
     }
 
-    /// 6: assigned again, or an edge repeated.
+    /// C10.6: neither assigned again, nor an edge repeated.
     fn fresh(&self, met: bool) -> Result<(), Refusal> {
         self.demand(met, REPEAT)
     }
 
     // The records.
 
-    /// The record to be read next; at the file's end 3, with the record count as place.
+    /// The record to be read next. C10.3: where the file ends, the place is how many there are.
     fn record(&self) -> Result<Record, Refusal> {
         let record = Record::at(self.file, self.at);
         record.ok_or(Refusal::new(KIND, self.at))
@@ -102,12 +103,14 @@ impl<'a> Parser<'a> {
         self.at += 1;
     }
 
+    /// C1.5: nothing stands behind the edges.
     fn end(&self) -> Result<(), Refusal> {
         self.fits(Record::at(self.file, self.at).is_none())
     }
 
     // The file's parts, in file order.
 
+    /// C1.6.
     fn variables(&mut self) -> Result<Vec<Variable>, Refusal> {
         let mut variables = Vec::new();
         self.required(VARIABLE)?;
@@ -124,6 +127,7 @@ impl<'a> Parser<'a> {
         Ok(variables)
     }
 
+    /// C1.7.
     fn start(&mut self) -> Result<Truth, Refusal> {
         let record = self.required(START)?;
         self.fields(record.zero_except(&[]))?;
@@ -131,6 +135,7 @@ impl<'a> Parser<'a> {
         self.truth(1)
     }
 
+    /// C1.8, C5.5.
     fn transitions(&mut self) -> Result<Vec<Transition>, Refusal> {
         let mut transitions = Vec::new();
         while let Some(record) = self.optional(TRANSITION) {
@@ -146,6 +151,7 @@ impl<'a> Parser<'a> {
         Ok(transitions)
     }
 
+    /// C1.9, C1.15.
     fn assignments(&mut self) -> Result<Vec<Assignment>, Refusal> {
         let mut assignments: Vec<Assignment> = Vec::new();
         while let Some(record) = self.optional(ASSIGNMENT) {
@@ -161,9 +167,10 @@ impl<'a> Parser<'a> {
         Ok(assignments)
     }
 
+    /// C1.10, C1.12.
     fn property(&mut self) -> Result<Claim, Refusal> {
         let record = self.required(PROPERTY)?;
-        // b is named for a = 2 only; otherwise it is zero.
+        // C1.4: b is zero but in a wait-for.
         let allowed = match record.a {
             1 | 3 => record.zero_except(&[Field::A]),
             2 => record.zero_except(&[Field::A, Field::B]) && phases_allowed(record.b),
@@ -195,7 +202,7 @@ impl<'a> Parser<'a> {
         Ok(Claim::Chain { p, q })
     }
 
-    /// "1 to 32; for wait-for exactly b"; one too many is 5, too few is 3.
+    /// C1.13: a wait-for has as many as phases. One too many is 5; C11.4: one too few is 3.
     fn nodes(&mut self, claim: &Claim) -> Result<Vec<Truth>, Refusal> {
         let (least, most) = match claim {
             Claim::WaitFor { q, .. } => (q.len(), q.len()),
@@ -212,6 +219,7 @@ impl<'a> Parser<'a> {
         Ok(nodes)
     }
 
+    /// C1.14.
     fn edges(&mut self, transitions: usize, nodes: usize) -> Result<Vec<Edge>, Refusal> {
         let mut edges: Vec<Edge> = Vec::new();
         while let Some(record) = self.optional(EDGE) {
@@ -224,7 +232,7 @@ impl<'a> Parser<'a> {
         Ok(edges)
     }
 
-    /// The edge, its fields allowed.
+    /// C1.15: the edge, its fields allowed.
     fn edge(&self, record: Record, transitions: usize, nodes: usize) -> Result<Edge, Refusal> {
         self.fields(record.last == 0 && record.d <= 1)?;
         let transition = usize::from(record.a);
@@ -244,8 +252,9 @@ impl<'a> Parser<'a> {
         })
     }
 
-    // Expressions; the level counts the outermost record as 1.
+    // C2.1: expressions, each record before its operands. C2.12: the outermost is at level 1.
 
+    /// C2.2, C2.11: of this sort, or refused with 3.
     fn truth(&mut self, level: usize) -> Result<Truth, Refusal> {
         let record = self.record()?;
         self.fits((TRUE..=AT_MOST).contains(&record.kind))?;
@@ -278,6 +287,7 @@ impl<'a> Parser<'a> {
         Ok(Box::new((left, right)))
     }
 
+    /// C2.2, C2.11, C1.15.
     fn number(&mut self, level: usize) -> Result<Number, Refusal> {
         let place = self.at;
         let record = self.record()?;
@@ -307,12 +317,12 @@ impl<'a> Parser<'a> {
     }
 }
 
-/// "b = 1..32 the count of phases"
+/// C1.11, C11.5: outside of 1..32 the field is refused, not the limit.
 fn phases_allowed(b: i16) -> bool {
     (1..=MOST_PHASES).contains(&b)
 }
 
-/// "an edge repeats a, b and c", whatever d is.
+/// C10.6: alike in transition, source and target, whether single or double.
 fn repeats(edge: &Edge, before: &Edge) -> bool {
     let same_transition = edge.transition == before.transition;
     same_transition && edge.from == before.from && edge.to == before.to

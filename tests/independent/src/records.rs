@@ -1,4 +1,4 @@
-//! Records of 8 bytes (document 01, "The file"); refusal 2.
+//! C1.1: a file is records of 8 bytes; refusal 2.
 
 use crate::refusal::{Refusal, LENGTH};
 
@@ -31,7 +31,7 @@ pub const EQUAL: u8 = 0x27;
 pub const LESS: u8 = 0x28;
 pub const AT_MOST: u8 = 0x29;
 
-/// The fields that a kind may name; byte 7 is never named.
+/// The fields that may have a meaning; byte 7 never has one.
 #[derive(Clone, Copy, PartialEq, Eq)]
 pub enum Field {
     A,
@@ -40,7 +40,7 @@ pub enum Field {
     D,
 }
 
-/// One record, decoded.
+/// C1.2: one record, decoded.
 #[derive(Clone, Copy)]
 pub struct Record {
     pub kind: u8,
@@ -52,7 +52,7 @@ pub struct Record {
 }
 
 impl Record {
-    /// The record of that number, if the file has it.
+    /// C1.2, C1.3: the record of that number, if the file has it.
     pub fn at(file: &[u8], number: usize) -> Option<Record> {
         let bytes = file.chunks_exact(RECORD_LENGTH).nth(number)?;
         Some(Record {
@@ -65,7 +65,7 @@ impl Record {
         })
     }
 
-    /// "Fields not named for a kind are zero", byte 7 always.
+    /// C1.4: all other fields are zero, byte 7 always.
     pub fn zero_except(&self, named: &[Field]) -> bool {
         let fields = [
             (Field::A, self.a == 0),
@@ -78,7 +78,7 @@ impl Record {
     }
 }
 
-/// Refusal 2: the length isn't a multiple of 8 or exceeds 32,768.
+/// C10.2: whole records, and at most 4,096 of them.
 pub fn check_length(file: &[u8]) -> Result<(), Refusal> {
     let whole = file.chunks_exact(RECORD_LENGTH).remainder().is_empty();
     let short = file.len() <= MOST_BYTES;

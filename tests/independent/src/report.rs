@@ -1,4 +1,4 @@
-//! The verdict and its report of 32 bytes (document 01, "Single test and report").
+//! The verdict and its report of 32 bytes.
 
 use crate::conditions::Condition;
 use crate::refusal::Refusal;
@@ -7,10 +7,10 @@ use crate::states::State;
 pub const REPORT_LENGTH: usize = 32;
 
 const ACCEPTED: u8 = 0;
-/// Node and transition "where the condition has none or no condition is named".
+/// C12.6: node and transition where there is none.
 const NONE: u8 = 255;
 
-/// The check's result: the report's fields, and the tests made.
+/// C12.1: the check's answer.
 #[derive(Clone, Copy, Debug, PartialEq, Eq)]
 pub struct Verdict {
     pub number: u8,
@@ -18,12 +18,12 @@ pub struct Verdict {
     pub transition: u8,
     pub at: u32,
     pub values: [i16; 12],
-    /// How many tests of a condition at a state were made (document 02, item 2); not in the report.
+    /// C12.7: how many tests of a condition at a state were made; not in the report.
     pub tests: u64,
 }
 
 impl Verdict {
-    /// A verdict that names no condition.
+    /// C12.6: a verdict that names no condition.
     fn unnamed(number: u8, at: u32, tests: u64) -> Verdict {
         Verdict {
             number,
@@ -35,15 +35,17 @@ impl Verdict {
         }
     }
 
+    /// C12.2.
     pub fn accepted(total: usize, tests: u64) -> Verdict {
         Verdict::unnamed(ACCEPTED, total as u32, tests)
     }
 
+    /// C12.6, C12.7: at is the place, and no test was made.
     pub fn refused(refusal: Refusal) -> Verdict {
         Verdict::unnamed(refusal.number, refusal.place, 0)
     }
 
-    /// The condition of that number is broken at the state.
+    /// C12.3: the condition of that number is broken at the state.
     pub fn broken(condition: Condition, number: usize, state: State, tests: u64) -> Verdict {
         Verdict {
             number: condition.number(),
@@ -55,7 +57,7 @@ impl Verdict {
         }
     }
 
-    /// The report.
+    /// C14.1, C14.2, C14.3: the report.
     pub fn bytes(&self) -> [u8; REPORT_LENGTH] {
         let mut report = [0; REPORT_LENGTH];
         report[0] = self.number;

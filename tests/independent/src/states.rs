@@ -1,16 +1,16 @@
-//! States and their numbering: "the last variable fastest, each variable's low end first".
+//! C4.4: states and their numbers. Counting up begins at the last variable.
 
 use crate::file::Variable;
 
-/// "twelve signed 16-bit values of the state", zero beyond the variables.
+/// C4.2: a state's values, zeros behind those of the file's variables.
 pub type State = [i16; 12];
 
-/// All states in order, by counting up.
+/// C4.5: all states in order, by counting up.
 pub fn all(ranges: &[Variable]) -> impl Iterator<Item = State> + '_ {
     std::iter::successors(Some(first(ranges)), |state| following(ranges, *state))
 }
 
-/// State 0.
+/// State 0: no value could be lower.
 pub fn first(ranges: &[Variable]) -> State {
     let mut state = [0; 12];
     for (value, range) in state.iter_mut().zip(ranges) {
@@ -19,7 +19,7 @@ pub fn first(ranges: &[Variable]) -> State {
     state
 }
 
-/// The state numbered one higher, if there is one.
+/// C4.6: the state numbered one higher, if there is one.
 fn following(ranges: &[Variable], mut state: State) -> Option<State> {
     for (variable, range) in ranges.iter().enumerate().rev() {
         if state[variable] < range.high {
@@ -31,7 +31,7 @@ fn following(ranges: &[Variable], mut state: State) -> Option<State> {
     None
 }
 
-/// The state of that number, which must be below the number of states.
+/// C4.4: the state of that number, which must be below the number of states.
 pub fn numbered(ranges: &[Variable], number: usize) -> State {
     let mut state = first(ranges);
     let mut rest = number;

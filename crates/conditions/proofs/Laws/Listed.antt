@@ -1,5 +1,6 @@
 -- Which conditions are listed.
---     opening-in, cover-in, range-in, step-in, enabling-in     the opening, the covers, and the conditions of each node from the row's first on
+--     opening-in, cover-in, range-in, step-in                  the opening, the covers, and those of each node from the row's first on (C8.4 to C8.6)
+--     enabling-in                                              and of its double transition, if it has one (C8.6)
 --     start-in, entry-in                                       the opening, by the row
 --     covered-in, goal-in                                      the cover of each node, where each is covered; that of node 0 always
 -- Assumes nothing.

@@ -1,8 +1,8 @@
 -- What is known of a file with diagram g.
 --     found-read                           reading found its parts
---     find-refuses                         or refused the file, with a number of 2 or more and a small place
+--     find-refuses                         or refused the file, with a number of 2 or more and a small place (C11.7)
 --     diagram-loaded                       a file whose parts are found has a diagram
---     readable-loaded, loaded-readable     a file is readable exactly if it has one
+--     readable-loaded, loaded-readable     a file is readable exactly if it has one (C11.6)
 --     loaded-once                          and it is the only one
 --     promised                             all that is promised of it
 -- Assumes nothing.

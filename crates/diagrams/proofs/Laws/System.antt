@@ -1,8 +1,8 @@
 -- Laws of the transitions of a file with diagram g.
 --     guard-at, values-at, enabled-at, next-at     what a transition does, by where it stands
---     enabled-and         a transition is enabled where its guard is true "and" all values are in range
---     successor-state     its successor is then a state
---     successor-value, successor-rest              its successor "has those values, the rest unchanged"
+--     enabled-and         a transition is enabled where its guard is true and each value is in range (C5.2)
+--     successor-state     its successor is then a state (C5.4)
+--     successor-value, successor-rest              its successor has the assigned values, and the others as they were (C5.3)
 -- Assumes nothing.
 use mathlib.Core.Path.{_≡_, refl, sym, subst, _∙_}
 use mathlib.Core.Bool.{true, _&&_}

@@ -1,6 +1,6 @@
 -- Where the truths of a diagram stand: each holds where the expression there does.
 --     start-at, node-at, p-at, q-at     the start, a node, p, a node's q
---     q-only                            every node's q is the first, where there is one q
+--     q-only                            every node's q is the first, where there is one q (C8.9)
 -- Assumes nothing.
 use mathlib.Core.Path.{_≡_, refl}
 use mathlib.Core.List.{List}

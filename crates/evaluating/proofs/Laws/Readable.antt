@@ -1,16 +1,17 @@
 -- What is known of a readable file and of its states: the page that judging cites. Each law follows from the answer of `read` alone.
 --     ranges                                       no range is empty
---     states-within                                there are at least 1 and at most 1,048,576 states
---     numbered, number                             each number below that has a state, and each state such a number: they determine each other
---     state-zero, next                             the first state, and the move forward from any but the last to the one numbered one higher
+--     states-within                                there are at least 1 and at most 1,048,576 states (C10.7)
+--     numbered, number                             each number below that has a state, and each state such a number: they determine each other (C4.5)
+--     state-zero, next                             the first state, and the move forward from any but the last to the one numbered one higher (C4.4, C4.6)
 --     start-fits, claimed-fits, assertion-fits     in every state the start, each expression of the property and each node's assertion can be evaluated
 --     transition-fits                              so can each transition's guard and assigned values
---     assignments-all                              its assignments are all that reading found, each with its variable and its value in the state
---     assignments-variables, assignments-once      they are to the variables that reading lists, to none twice
---     successor-value, successor-rest              its successor "has those values, the rest unchanged"
+--     number-lies                                  and each number in them is worth something in its interval (C3.6)
+--     assignments-all                              its assignments are all that reading found, each with its variable and its value in the state (C5.1)
+--     assignments-variables, assignments-once      they are to the variables that reading lists, to none twice (C1.9)
+--     successor-value, successor-rest              its successor has the assigned values, and the others as they were
 --     successor-within                             the successor of an enabled transition at a state is a state
 -- Assumes nothing.
-use mathlib.Core.Path.{_≡_}
+use mathlib.Core.Path.{_≡_, refl}
 use mathlib.Core.List.{List}
 use mathlib.Core.Bool.{true}
 use Prim.Native.Nat.{ℕ, zero, suc, _+_, _/_, _<_, _≤_}
@@ -29,7 +30,7 @@ use Rattle.reading.specs.Read.{readOf}
 use Rattle.intervals.specs.Expression.{Expression}
 use Rattle.reading.specs.Readable.{Assignments, Transition}
 use Rattle.reading.proofs.Laws.Readable as readable
-use Rattle.expressions.specs.Expression.{partAt}
+use Rattle.expressions.specs.Expression.{partAt, number as worth}
 use Rattle.expressions.specs.Fits.{Fits}
 use Rattle.states.specs.Ranges.{Ranges}
 use Rattle.ranges.specs.Range.{lowsOf, highsOf}
@@ -40,7 +41,7 @@ use Rattle.evaluating.specs.declared.Assignment.{Assignment}
 use Rattle.evaluating.specs.Transition.{assignmentList}
 use Rattle.evaluating.specs.Step.{successorOf, enabledOf}
 use Rattle.evaluating.specs.Fits.{AssignmentsFit, TransitionFits}
-use Rattle.expressions.proofs.Laws.Sound.{expression-fits}
+use Rattle.expressions.proofs.Laws.Sound.{expression-fits, number-in}
 use Rattle.expressions.proofs.Laws.Part.{behind-end}
 use Rattle.states.proofs.Laws.State.{within-at, within-length}
 use Rattle.ranges.proofs.Laws.Range.{ends-length, ends-at, ranges-file}
@@ -100,6 +101,9 @@ module _ (file : List ℕ) (o : Outline) (r : readOf file ≡ Reading.Found o) w
     number = (number-below s, state-of-number s)
 
     -- ---- expressions
+    pub number-lies : (levels at end : ℕ) (i : Interval) → Expression file (o .vars) levels numberSort at end i → In (worth levels (partAt file at) state) i
+    number-lies levels at end i x = number-in file (o .vars) most state inside levels numberSort at end i x refl
+
     pub start-fits : Fits 16 truthSort (partAt file (o .vars + 1)) state
     start-fits = fits _ _ _ _ (readable.start file o r .expression)
 
@@ -134,7 +138,7 @@ module _ (file : List ℕ) (o : Outline) (r : readOf file ≡ Reading.Found o) w
       pub assignments-once : Once list
       assignments-once = rw assignments-all (found-once file (o .vars) (here .end) state (here .behind) (here .assignments))
 
-      -- ---- its successor: "has those values, the rest unchanged"
+      -- ---- its successor, variable by variable
       pub successor-value : (v : ℕ) (x : ℤ) → AssignedIn v x list → getD (successorOf file (here .place) state) v (pos 0) ≡ x
       successor-value v x a =
           let m = most in

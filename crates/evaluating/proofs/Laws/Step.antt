@@ -1,6 +1,6 @@
 -- Laws of a transition at a state, and of what a step answers.
 --     guard-holds                  the guard is the truth behind the transition's record
---     enabled-and, enabled-both    "enabled at s if its guard is true and all assigned values .. lie in range"
+--     enabled-and, enabled-both    it is enabled where its guard is true and each value that it assigns is in range
 --     successor-assigned           the successor is the state with those values
 --     successor-state              that of an enabled transition is a state
 --     step-guard, step-enabled     a step says whether the guard is true, and whether the transition is enabled

@@ -7,7 +7,7 @@
 --     list-end, list-none, list-more              the assignments from a record on: none are left, the record is none, one more
 --     list-from                                   those of a transition begin behind its guard
 --     fits-more                                   an assignment of a transition that fits, and those behind it
---     assigned-value, assigned-rest               "has those values, the rest unchanged", where no variable is assigned twice
+--     assigned-value, assigned-rest               what it assigns, and the others as they were, where no variable is assigned twice
 --     list-found                                  the assignments from a record on are those that reading found there
 --     found-variables, found-once, found-named    those are to the variables that reading lists, none twice, each of them the file's
 -- Assumes nothing.
@@ -103,7 +103,7 @@ pub fits-more : (file : List ℕ) (at : ℕ) (state : List ℤ) {left n : ℕ} �
 unfolding AssignmentsFit
 fits-more file at state is e h = (rw is at h) e
 
--- ---- "has those values, the rest unchanged"
+-- ---- the assigned values, and the others
 -- the variables that are assigned, in order
 abbrev pub variables : List Assignment → List ℕ
 variables list = map (λ (a : Assignment). a .variable) list

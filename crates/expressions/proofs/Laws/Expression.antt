@@ -1,7 +1,7 @@
 -- Laws of what an expression is worth, by the form of its record, one level further in for its operands.
 --     first-is, second-is                                     the parts of the operands
---     number-constant, number-variable, number-arithmetic, number-indicator     a number of each form
---     truth-literal, truth-negation, truth-connective, truth-comparison         a truth of each form
+--     number-constant, number-variable, number-arithmetic, number-indicator     a number of each form (C2.3 to C2.6)
+--     truth-literal, truth-negation, truth-connective, truth-comparison         a truth of each form (C2.7 to C2.10)
 --     holds-is                                                a truth expression of a file
 --     fits-level, fits-record, fits-small                     an expression that fits has a level and a record that fits, and a number is small
 --     fits-opens, fits-one, fits-two                          its operands fit

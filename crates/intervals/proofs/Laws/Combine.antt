@@ -1,5 +1,6 @@
 -- Laws of what one record makes of its fields and of its operands.
---     leaf-constant, leaf-variable, join-arithmetic         a record's own interval, by its form
+--     leaf-constant, leaf-variable                          the own interval of a record without operands, by its form (C3.1)
+--     join-arithmetic                                       and of one with two (C3.3)
 --     combine-sum, combine-difference, combine-product      what each kind of arithmetic combines by
 --     combine-in                                            a number combined of two lies in the interval over the ends of theirs
 -- Assumes nothing.

@@ -1,5 +1,5 @@
 -- Laws of an expression of a readable file.
---     expression-opens     its own record and its operands, one level further in: for an induction over expressions
+--     expression-opens     its own record and its operands, one level further in: for an induction over expressions (C3.6)
 --     expression-deepest   with no level left there is none
 --     expression-bounded   its interval lies in -1,000,000..1,000,000
 --     expression-within    it ends behind its first record and within the file

@@ -1,6 +1,6 @@
 -- Laws of the analysis of an expression.
 --     analysis-opens     where an interval that is answered comes from
---     analysis-bounded   it lies in -1,000,000..1,000,000
+--     analysis-bounded   it lies in -1,000,000..1,000,000 (C3.4)
 --     analysis-span      the end that is answered is where the expression ends
 --     analysis-walk      so it is where the walk ends
 --     analysis-ahead, analysis-within     it lies behind the first record and within the file

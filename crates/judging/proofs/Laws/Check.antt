@@ -1,8 +1,8 @@
--- The three demands, of the check's result and report.
---     report-long                 a report of 32 bytes or more changes in its first 32 only (demand 1; `report-short` for others: Laws/Report)
---     check-decides               demand 2: with room for a report, a readable file is accepted exactly when each condition holds at every state; otherwise
---                                 the first untrue condition is named with the lowest-numbered state that breaks it; the tests made
---     check-claims                what an accepted file claims is true (demand 3)
+-- What the check promises beyond its definition, on one page. That every call ends in an answer (C12.8) is what its contract means.
+--     report-long                 a buffer of 32 bytes or more changes in its first 32 only (`report-short` for others: Laws/Report) (C14.6)
+--     check-decides               with room for a report, a readable file is accepted exactly if each condition holds in every state; otherwise
+--                                 the first untrue condition is named with the lowest-numbered state that breaks it; the tests made (C12.9, C12.10)
+--     check-claims                what an accepted file claims is true (C12.11)
 -- Assumes nothing.
 use mathlib.Core.Path.{_≡_, refl, sym, _∙_}
 use mathlib.Core.List.{List}
@@ -29,7 +29,7 @@ use Rattle.soundness.proofs.Laws.Sound.{sound}
 judged : (file : List ℕ) (g : Diagram) → Loaded file g → verdictOf file ≡ judgedOf file g
 judged file g r = rw (r .is) (verdict-found file (r .outline) (r .found))
 
--- ---- demand 3
+-- ---- what an accepted file claims
 accepted-claims : (file : List ℕ) → verdictOf file .number ≡ 0 → Claim file
 accepted-claims file e = go (foundOf file) refl
   where
@@ -56,14 +56,14 @@ module _ (file : List ℕ) (room : ℕ) where
       go (yes l) = absurd (omega (arith, number (check-short file l)))
       go (no l) = accepted-claims file (number (check-long file (omega arith)))
 
-  -- ---- demand 2
+  -- ---- what the verdict decides
   pub check-decides : {v : Verdict} → v ≡ checkOf file room → Decides file room v
   check-decides e g r l =
       let h = readable-loaded file g r in
       let is : checkOf file room ≡ judgedOf file g = check-long file l ∙ judged file g h in
       rw (e, is) (judges file g h)
 
--- ---- demand 1
+-- ---- the buffer
 -- a verdict has twelve values
 judged-values : (file : List ℕ) (g : Diagram) → Loaded file g → length (judgedOf file g .values) ≡ 12
 judged-values file g r = go (ℕ-discrete (judgedOf file g .number) 0)

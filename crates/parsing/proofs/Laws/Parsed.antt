@@ -1,9 +1,10 @@
 -- Laws of a file that parses.
---     variables-most, transitions-most, nodes-least, nodes-allowed, nodes-most, edges-most     its counts lie within their limits
+--     variables-most, transitions-most, nodes-allowed, nodes-most, edges-most     its counts lie within their limits (C10.5)
+--     nodes-least    it has a node, and a wait-for one for each phase (C1.13)
 --     variable-range     a variable's range is not empty
---     edge-names     an edge names a transition and nodes of the file
+--     edge-names     an edge names a transition and nodes of the file (C1.15)
 --     edges-end      the edges, of one record each, end the file
---     edge-new       no edge repeats an earlier one
+--     edge-new       no edge repeats an earlier one (C10.6)
 -- Assumes nothing.
 use mathlib.Core.Path.{_≡_}
 use mathlib.Core.List.{List}

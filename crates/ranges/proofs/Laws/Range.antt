@@ -1,7 +1,7 @@
 -- Laws of the ranges of a file's variables.
 --     ends-length, ends-at, ends-beyond     a table of ends has 12 entries: those of the file's variables, and 0 beyond
 --     ranges-file                           where no variable's range is empty, none of the twelve is
---     state-idle                            a variable that the file lacks is 0 in every state
+--     state-idle                            a variable that the file lacks is 0 in every state (C4.2)
 --     states-idle                           beyond a file's variables every state is idle
 -- Assumes nothing.
 use mathlib.Core.Path.{_≡_, sym, _∙_}

@@ -1,9 +1,9 @@
 -- The edges of a readable file.
 --     edge-names         each names a transition and nodes that exist
---     edge-leads         it leads from a node that it may, and not up unless it may
---     edge-single        it is single where edges may not be double
---     edge-double        a double one leads down, unless edges may rise, and its transition is just
---     double-transition  where edges may be double, each node from the first that they lead from has exactly one double transition, and it is just
+--     edge-leads         it leads from a node that it may, and not up unless it may (C9.2, C9.3)
+--     edge-single        it is single where edges may not be double (C9.1, C9.4)
+--     edge-double        a double one leads down, unless edges may rise, and its transition is just (C9.5, C9.6)
+--     double-transition  where edges may be double, each node that they may lead from has exactly one double transition, and it is just (C9.7 to C9.9)
 -- Assumes nothing.
 use mathlib.Core.Path.{_≡_, refl, sym, _∙_}
 use mathlib.Core.Bool.{Bool, true, false, cond, not, _&&_, _||_, Bool·beq, and-eq-true-iff, false≢true}
@@ -98,7 +98,7 @@ module _ (file : List ℕ) (o : Outline) (r : Stages file o) where
         (not (x .double) || (fallsOf (propertyAt file (o .property)) x && justOf file o (x .transition))) .0 (double-ruled e l) in
         (not-true _ (q .0), q .1)
 
-    -- "double strictly down, on just transitions"
+    -- a double edge falls, and its transition is just
     double-obeys : (e : ℕ) → e < o .edges → edgeOf file o e .double ≡ true
         → (fallsOf (propertyAt file (o .property)) (edgeOf file o e) ≡ true) × (justOf file o (edgeOf file o e .transition) ≡ true)
     double-obeys e l d =
@@ -130,7 +130,7 @@ module _ (file : List ℕ) (o : Outline) (r : Stages file o) where
         let z : from + (n - from) ≡ n = omega arith in
         rw z at (refuse-all 10 (doubledOf file o) (r .doubles .end) (o .nodes - from) from (rw may at (r .doubles .is)) (n - from) (omega arith))
 
-    -- "one double transition per node, never also single there; each node from 1 up has a double edge"
+    -- a node has a double edge, and no other transition has one from it
     pub double-transition : (n : ℕ) → propertyAt file (o .property) .from ≤ n → n < o .nodes → DoubleTransition file o n
     unfolding doubledOf
     double-transition n k l =

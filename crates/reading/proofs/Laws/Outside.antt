@@ -1,6 +1,6 @@
 -- Refusal 8 says what it means: the record at its place has an own interval that goes out of bounds.
 --     analysis-out      of an expression that walks to its end
---     intervals-out     of a file that parses
+--     intervals-out     of a file that parses (C10.8)
 -- Assumes nothing.
 use mathlib.Core.Path.{_≡_, ap, subst, _∙_}
 use mathlib.Core.Logic.{_⊎_, inl, inr}

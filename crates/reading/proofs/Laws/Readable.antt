@@ -1,9 +1,9 @@
 -- What is known of a readable file: the page that the layers above cite. Each law follows from the answer of `read` alone.
---     whole, small                        the file is whole records, at most 4,096 of them
---     variables-within, transitions-within, nodes-within, phases, edges-within     its counts, within their limits
+--     whole, small                        the file is whole records, at most 4,096 of them (C10.2)
+--     variables-within, transitions-within, nodes-within, phases, edges-within     its counts, within their limits (C1.6, C1.8, C1.13, C1.13, C1.14)
 --     property-right, property-known      the property's fields are right; what the property claims is known
 --     variable-range, states-within, states-end     no range is empty; the states are the product of the ranges, at most 1,048,576
---     start, transition, claimed, node    each expression walks to its end, with its intervals in bounds; no variable is assigned twice
+--     start, transition, claimed, node    each expression walks to its end, with its intervals in bounds; no variable is assigned twice (C3.6)
 --     transition-place, node-place        the tables of places have each transition's and each node's record
 --     edge, edge-new, edge-leads, edge-double     each edge names what exists, is new and obeys its rules
 --     double-transition                   where edges may be double, each node that they may lead from has exactly one double transition, and it is just
@@ -67,7 +67,7 @@ module _ (file : List ℕ) (o : Outline) (r : readOf file ≡ Reading.Found o) w
   pub nodes-within : (1 ≤ o .nodes) × (o .nodes ≤ 32)
   nodes-within = (parsed.nodes-least file o parses, parsed.nodes-most file o parses)
 
-  -- "for wait-for exactly b"
+  -- a wait-for has as many nodes as phases
   pub phases : propertyAt file (o .property) .phased ≡ true → o .nodes ≡ fieldB file (o .property)
   phases w =
       let b = fieldB file (o .property) in

@@ -1,8 +1,8 @@
 -- Laws of the classification of kinds.
 --     constant-form, variable-form, arithmetic-form, indicator-form, literal-form, negation-form, connective-form, comparison-form
 --                                                 the form of a kind, by the range that it lies in
---     unfit-below, unfit-between, unfit-above     a kind in none of the ranges is unfit
---     signature-form, signature-by                the signature of a kind is its form's
+--     unfit-below, unfit-between, unfit-above     a kind in none of the ranges is unfit (C2.11)
+--     signature-form, signature-by                the signature of a kind is its form's (C2.2, C2.11)
 --     leaf-signature                              constants and variables have one signature
 --     head-none                                   the kinds below 10, which begin the items of a file, begin no expression
 --     operands-most                               no kind has more than two operands

@@ -1,5 +1,5 @@
 -- Laws of the walk that the crates above cite.
---     walk-opens     an expression that walks to an end: what its record is, and that its operands walk to that end
+--     walk-opens     an expression that walks to an end: what its record is, and that its operands walk to that end (C2.1)
 --     walk-bound     the end lies behind the record and within the file
 --     then-first, then-ends               a part, and what follows it: where the part ends, unless its refusal stands
 --     sequence-none, sequence-next        no part, and one behind a part that ends

@@ -1,9 +1,9 @@
 -- Laws of the table of properties.
---     known-claims        the claims that there are
+--     known-claims        the claims that there are (C1.10)
 --     unknown             there is no other
 --     invariance-row, wait-for-row, chain-row     the row of each
 --     from-most           conditions of range and step begin at node 0 or 1
---     entry-from          at node 1 exactly where p stands before q: node 0 is then the goal
+--     entry-from          at node 1 exactly where p stands before q: node 0 is then the goal (C8.2)
 --     doubles-from        so where edges may be double
 -- Assumes nothing.
 use mathlib.Core.Path.{_≡_, refl}

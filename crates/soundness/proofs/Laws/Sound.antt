@@ -1,5 +1,5 @@
--- Where every listed condition holds at every state, what the file claims is true of every run of its system (demand 3).
---     sound     by the theorem of the claim's kind: the diagram's edges and listed conditions meet what it asks
+-- Where every listed condition holds at every state, what the file claims is true of every run of its system.
+--     sound     by the theorem of the claim's kind: the diagram's edges and listed conditions meet what it asks (C12.11)
 -- Assumes nothing.
 use mathlib.Core.Path.{_≡_, refl, sym, subst, _∙_}
 use mathlib.Core.Logic.{_⊎_, _≢_, inl, inr}

@@ -1,8 +1,8 @@
--- The system of a file has the states and steps of document 01, and none is missing.
---     successor-state     the successor of an enabled transition at a state is a state
---     steps-run           so whatever begins in a state and goes on by steps, idling or taking a transition, is a run: a state at each position
+-- The system of a file has the states and steps of the specification, and none is missing.
+--     successor-state     the successor of an enabled transition at a state is a state (C5.4)
+--     steps-run           so whatever begins in a state and goes on by steps, idling or taking a transition, is a run: a state at each position (C6.7)
 --     step-run            a state and its successor are one
---     state-run           and a state by itself: a run "begins in any state"
+--     state-run           and a state by itself, whichever it is (C6.3, C6.7)
 --     idle-run            and a state for ever
 -- Assumes nothing.
 use mathlib.Core.Path.{refl, _∙_}

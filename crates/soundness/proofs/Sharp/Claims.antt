@@ -1,15 +1,15 @@
--- What a file claims is no weaker than document 01 says, and no stronger: small files with the system of Files.antt, each with a claim that is false of its
--- runs, or true. By a weaker definition of `Claimed` a false claim would be true, by a stronger one a true claim false.
+-- What a file claims is no weaker than C7.9 says, and no stronger: small files with the system of Files.antt, each with a claim that is false of its runs,
+-- or true. By a weaker definition of `Claimed` a false claim would be true, by a stronger one a true claim false.
 --                           claim     the clause that it protects
---     no-kind               false     of any file: there is no other kind
---     invariance-q          false     q holds at every position, from a starting state
---     invariance-range      false     values in range, in each node from 0 to the last, of each transition
+--     no-kind               false     of any file: there is no other kind (C1.10)
+--     invariance-q          false     q holds at each position, from a starting state (C7.1)
+--     invariance-range      false     values in range, in each node from 0 to the last, of each transition (C7.8)
 --     invariance-node       true      values in range in the nodes only
---     wait-for-q            false     numbers, wherever p holds
---     wait-for-range        false     values in range, in each node from 1 to the last
---     wait-for-numbers      true      m = b - 1, and the q of each number; a = 2 claims neither an invariance nor a chain
+--     wait-for-q            false     numbers, wherever p holds (C7.3)
+--     wait-for-range        false     values in range, in each node from 1 to the last (C8.2)
+--     wait-for-numbers      true      m = b - 1 (C1.11), and the q of each number; a = 2 claims neither an invariance nor a chain
 --     wait-for-goal         true      where p holds only; in the goal a value may be out of range
---     chain-q               false     q comes, wherever p holds
+--     chain-q               false     q comes, wherever p holds (C7.5, C7.6)
 --     chain-node            false     some node is true there
 --     chain-range           false     values in range, in each node from 1 to the last
 --     chain-goal            true      where p holds only, the q behind p, all nodes; in the goal a value may be out of range; a = 3 claims no invariance

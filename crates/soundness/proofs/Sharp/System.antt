@@ -1,10 +1,10 @@
 -- The system of a file is the one that its records say: each component, at each state of the system of Files.antt.
---     in-states       a state gives v a value in its range
---     start           true at v = 1
+--     in-states       a state gives v a value in its range (C4.1)
+--     start           true at v = 1 (C6.3)
 --     transitions     all
---     just            the last, not the first
---     guard, fits     each transition's own, in the order v = 0, v = 1, v = 2
---     assigns         each transition's own successor, and no other
+--     just            the last, not the first (C5.5)
+--     guard, fits     each transition's own, in the order v = 0, v = 1, v = 2 (C5.2)
+--     assigns         each transition's own successor, and no other (C5.3)
 -- Assumes nothing.
 use mathlib.Core.Path.{_≡_, refl}
 use mathlib.Core.Bool.{true, false}

@@ -1,12 +1,12 @@
 -- Laws of the numbers of states.
 --     count-pos, size-pos                there is a state at least, and a value in each range
 --     below-high                         an offset below the size of a range is that of a value in it
---     number-below, state-within         a state has a number below the count, and such a number a state
---     state-of-number, number-of-state   each determines the other
---     number-unique                      no two states have one number
+--     number-below, state-within         a state has a number below the count, and such a number a state (C4.5)
+--     state-of-number, number-of-state   each determines the other (C4.5)
+--     number-unique                      no two states have one number (C4.5)
 --     first-number, first-state          number 0 is the state of the low ends
 --     advance-within                     the move forward leads to a state
---     advance-number, advance-next       from any state but the last, to the one numbered one higher
+--     advance-number, advance-next       from any state but the last, to the one numbered one higher (C4.6)
 --     advance-last                       and from the last to the first
 -- Assumes nothing.
 use mathlib.Core.Path.{_≡_, refl, sym, ap, _∙_}

@@ -1,6 +1,6 @@
 -- Laws of the line that is printed.
 --     printed-number     its first two digits are those of the number
---     printed-zero       it begins with 00 only where the number is 0
+--     printed-zero       it begins with 00 only where the number is 0 (C15.3)
 -- Assumes nothing.
 use mathlib.Core.Path.{_≡_, refl, sym, _∙_}
 use mathlib.Core.Bool.{Bool, true, false, cond}

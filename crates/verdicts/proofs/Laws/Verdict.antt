@@ -2,9 +2,9 @@
 --     state-numbered, number-state     each number below that of the states has a state, and each state such a number: they determine each other
 --     true-at, true-holds              a condition is true exactly if it holds at every number's state
 --     Breaks, breaks-first             the first state that breaks a condition; one that is not true has it
---     judged-broken, judged-whole      the verdict where a condition is broken, those before it true; and where none is
+--     judged-broken, judged-whole      the verdict where a condition is broken, those before it true; and where none is (C12.3, C12.2)
 --     Broken, Whole, judged-cases      it is one of these two
---     check-short, check-long          a report buffer of under 32 bytes is refused with 1; with a longer one the verdict on the file is given
+--     check-short, check-long          a report buffer of under 32 bytes is refused with 1; with a longer one the verdict on the file is given (C10.1)
 --     verdict-found, verdict-refused   that of a file whose parts are found, and of one that reading refuses
 -- Assumes nothing.
 use mathlib.Core.Path.{_≡_, refl}

@@ -96,11 +96,10 @@ fn single_refused(file: &[u8], condition: usize, state: usize, number: u8, place
     tests(file, condition, state, Tested::Refused { number, place });
 }
 
+/// C12.2, C12.3, C12.6, C12.7, C14.1, C14.2, C14.3; C5.1: J swaps; C9.3: I; C9.6: F; C9.9: G.
 #[test]
 fn examples() {
-    // "A: 17, report 1100000003000000 0100, then 22 zero bytes"; of the others document 01 gives
-    // the number and what else is named. F and I name the record of their edge, as 9 does. A to I
-    // have 3 states, J has 4.
+    // A to I have 3 states, J has 4.
     for (name, first_bytes, tests) in [
         ("A", "1100000003000000 0100", 11),
         ("B", "00ffff0004000000", 12),
@@ -132,7 +131,7 @@ fn examples() {
     }
 }
 
-/// The repository's examples, each with the report that its text gives.
+/// The repository's examples, each with the report that its text gives: C14.1, C14.2, C14.3.
 #[test]
 fn samples() {
     let mut checked = 0;
@@ -155,6 +154,7 @@ fn samples() {
     assert!(checked >= 20, "{checked} examples");
 }
 
+/// C10.1, C14.4 to C14.6; C12.12: the same answer, whatever the room.
 #[test]
 fn buffers() {
     for (name, expected) in [
@@ -170,7 +170,7 @@ fn buffers() {
                 let mut after = before.clone();
                 let verdict = check(&file, &mut after[..room]);
                 if room < 32 {
-                    // "Refusal 1 writes nothing." It takes no tests either.
+                    // It takes no tests either.
                     assert_eq!(verdict, refusal(1, 0), "{name}, {checker}, {room}");
                     assert_eq!(after, before, "{name}, {checker}, {room}");
                 } else {
@@ -183,6 +183,7 @@ fn buffers() {
     }
 }
 
+/// C13.1, C13.2, C13.3, C10.11, C10.12.
 #[test]
 fn single_tests() {
     // v in 0..2, start v = 0, v less than 2: v + 1, q v at most 2, node v at most 1. Only the step
@@ -227,6 +228,8 @@ fn single_tests() {
     }
 }
 
+/// C8.7, C8.8, C8.9, C10.13, C10.14, C10.15; C12.4, C12.5; C8.6: of a chain only the goal is
+/// covered.
 #[test]
 fn start_entry_cover() {
     // Invariance: start v at most 1, node v = 0.
@@ -288,6 +291,7 @@ fn start_entry_cover() {
     accepted(&chain(equal(1), always(), equal(1)), 5, 10);
 }
 
+/// C8.4, C8.5, C8.10, C8.11, C10.16, C10.17.
 #[test]
 fn range_and_step() {
     // Two transitions from v = 0 and v = 1 of 0..1; the first has its value out of range where v
@@ -325,6 +329,7 @@ fn range_and_step() {
     accepted(&wait_for(&[(0, 1, 0, 0), (1, 1, 0, 0)]), 7, 14);
 }
 
+/// C8.6, C8.12, C8.13, C10.18.
 #[test]
 fn double_and_enabling() {
     // D, whose node 2 is v = 0 and node 1 v = 1, with other guards and steps.
@@ -353,7 +358,7 @@ fn double_and_enabling() {
     holds(&out, 7, &[false, true, true]);
 }
 
-/// "Totals: 1 + N + 2NT; 1 + N + 2(N-1)T; 2 + 2(N-1)T + (N-1)."
+/// C8.15, C12.2, C12.7.
 #[test]
 fn totals() {
     for (nodes, transitions) in [

@@ -1,4 +1,4 @@
-//! Document 02, item 2: the lowest breaking state and the tests made, counted by hand.
+//! The lowest breaking state and the tests made, counted by hand.
 
 use super::{acceptance, answers, Records};
 use differential::generate::record;
@@ -53,6 +53,7 @@ fn breaks(ranges: &[(i16, i16)], truth: &Records, values: &[i16], tests: u64) {
     answers(&broken_where(ranges, truth), expected);
 }
 
+/// C12.5, C12.7.
 #[test]
 fn one_variable() {
     // Ten states, -4 to 5.
@@ -75,6 +76,7 @@ fn one_variable() {
     }
 }
 
+/// C4.4, C12.5, C12.7.
 #[test]
 fn two_variables() {
     // -1..1 and 5..8: state 4 (v + 1) + (w - 5) of 12.
@@ -91,6 +93,7 @@ fn two_variables() {
     breaks(&ranges, &join(0x24, &first, &second), &[-1, 6], 12 + 1 + 1);
 }
 
+/// C4.3, C10.7, C12.7.
 #[test]
 fn as_many_states_as_allowed() {
     // 16 × 65,536 = 1,048,576 states.

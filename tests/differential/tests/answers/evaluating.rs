@@ -22,7 +22,7 @@ fn file(ranges: &[(i16, i16)], start: Expression) -> Vec<u8> {
     records.concat()
 }
 
-/// Both count so many states, and so many starting states.
+/// C4.3, C10.12: both count so many states; C6.3, C8.7: and so many starting states.
 #[track_caller]
 fn counts(file: &[u8], states: usize, starting: usize) {
     for (name, _, single) in CHECKERS {
@@ -37,6 +37,7 @@ fn counts(file: &[u8], states: usize, starting: usize) {
     }
 }
 
+/// C2.7, C4.3.
 #[test]
 fn literals() {
     counts(&file(&[(5, 5)], &[(0x20, 0, 0)]), 1, 1);
@@ -44,6 +45,7 @@ fn literals() {
     counts(&file(&[(0, 9); 2], &[(0x21, 0, 0)]), 100, 0);
 }
 
+/// C1.3, C2.3, C2.4, C2.5, C2.10.
 #[test]
 fn negative_ranges() {
     // v less than -1, of -3..-1: -3 and -2.
@@ -63,6 +65,7 @@ fn negative_ranges() {
     counts(&file(&[(i16::MIN, i16::MAX)], &equal), 65_536, 1);
 }
 
+/// C2.1, C2.5.
 #[test]
 fn differences() {
     // v - w equal to 1, of 0..3 each: 1 and 0, 2 and 1, 3 and 2.
@@ -97,6 +100,7 @@ fn differences() {
     counts(&file(&[(0, 3); 2], &left), 16, 2);
 }
 
+/// C2.5, C2.6.
 #[test]
 fn indicator_in_product() {
     // v times the indicator of w less than v, less than 2; v in 0..3, w in -1..1. The indicator is 1
@@ -120,6 +124,7 @@ fn indicator_in_product() {
     counts(&file(&[(0, 3), (-1, 1)], &start), 12, 4);
 }
 
+/// C2.8, C2.9; C2.1: left before right.
 #[test]
 fn connectives() {
     // v = 0 and w = 0, of 0..1 each, joined: where true, of the states 00, 01, 10, 11.

@@ -1,4 +1,4 @@
-//! The examples of document 01.
+//! The small files A to J, and some at a limit.
 
 use super::Records;
 use differential::generate::record;
@@ -41,15 +41,17 @@ fn equal(value: i16) -> Records {
     compare(0x27, value)
 }
 
-/// "File A, 21 records, bytes 0-5 given (6-7 zero)".
+/// C1.2, C1.3: the bytes of A.
 fn a() -> Records {
-    "010000000200 020000000000 270000000000 110000000000 100000000000 030000000000 280000000000 \
-     110000000000 100002000000 040000000000 120000000000 110000000000 100001000000 050100000000 \
-     290000000000 110000000000 100002000000 060000000000 290000000000 110000000000 100001000000"
+    "0100000002000000 0200000000000000 2700000000000000 1100000000000000 1000000000000000 \
+     0300000000000000 2800000000000000 1100000000000000 1000020000000000 0400000000000000 \
+     1200000000000000 1100000000000000 1000010000000000 0501000000000000 2900000000000000 \
+     1100000000000000 1000020000000000 0600000000000000 2900000000000000 1100000000000000 \
+     1000010000000000"
         .split_whitespace()
         .map(|digits| {
             let mut record = [0; 8];
-            for (byte, at) in record.iter_mut().zip((0..12).step_by(2)) {
+            for (byte, at) in record.iter_mut().zip((0..16).step_by(2)) {
                 *byte = u8::from_str_radix(&digits[at..at + 2], 16).unwrap();
             }
             record
@@ -57,21 +59,21 @@ fn a() -> Records {
         .collect()
 }
 
-/// "A's last constant 2".
+/// A, with 2 as its last constant.
 fn b() -> Records {
     let mut records = a();
     records[20] = record(0x10, 0, 2, 0, 0);
     records
 }
 
-/// "B with guard true".
+/// B, its guard true.
 fn c() -> Records {
     let mut records = b();
     records.splice(6..9, [r(0x20, 0)]);
     records
 }
 
-/// "A's variable, start and step".
+/// A up to its transition, just or not.
 fn system(just: u8) -> Records {
     let mut records = a();
     records.truncate(13);
@@ -79,7 +81,7 @@ fn system(just: u8) -> Records {
     records
 }
 
-/// Puts nodes "v = 2, v = 1, v = 0" to a file, and edges: from, to, d.
+/// Puts three nodes to a file, that v is 2, 1 or 0, and edges: from, to, d.
 fn with_nodes(mut records: Records, edges: &[(i16, i16, u8)]) -> Records {
     for value in [2, 1, 0] {
         records.push(r(0x06, 0));
@@ -91,7 +93,7 @@ fn with_nodes(mut records: Records, edges: &[(i16, i16, u8)]) -> Records {
     records
 }
 
-/// D: "chain, A's variable, start and step (just), p true, q v = 2".
+/// A chain over A's system: p is true, q is that v is 2.
 fn chain(just: u8, edges: &[(i16, i16, u8)]) -> Records {
     let mut records = system(just);
     records.extend([r(0x05, 3), r(0x20, 0)]);
@@ -99,7 +101,7 @@ fn chain(just: u8, edges: &[(i16, i16, u8)]) -> Records {
     with_nodes(records, edges)
 }
 
-/// H: "wait-for, same nodes as phases, p v = 0".
+/// A wait-for over A's system, just: p is that v is 0, and each node is also its phase's q.
 fn wait_for(edges: &[(i16, i16, u8)]) -> Records {
     let mut records = system(1);
     records.push(record(0x05, 2, 3, 0, 0));
@@ -109,8 +111,7 @@ fn wait_for(edges: &[(i16, i16, u8)]) -> Records {
     with_nodes(records, edges)
 }
 
-/// "a and b in 0..1, start a = 0 and b = 1, one step, guard true, swaps them, node and q
-/// "not a = b"".
+/// Two variables, 0 and 1 at the start, are swapped without a guard, and always differ.
 fn j() -> Records {
     let not_equal = [r(0x22, 0), r(0x27, 0), r(0x11, 0), r(0x11, 1)];
     let mut records = vec![record(0x01, 0, 0, 1, 0); 2];

@@ -1,10 +1,11 @@
-//! Answers given by the documents or worked out by hand, which both checkers must give.
+//! Answers worked out by hand, which both checkers must give. Each test cites the clauses of
+//! docs/SPECIFICATION.md that it would see broken.
 
 mod checking;
 mod counting;
 mod evaluating;
 mod examples;
-mod readings;
+mod refusals;
 
 use differential::compare::{proved_check, proved_single};
 use independent::{Tested, Verdict};
@@ -18,7 +19,7 @@ const CHECKERS: [(&str, Check, Single); 2] = [
     ("independent", independent::check, independent::single),
 ];
 
-/// A refusal that names no condition.
+/// C12.6: a refusal that names no condition.
 fn refusal(number: u8, place: u32) -> Verdict {
     Verdict {
         number,
@@ -30,6 +31,7 @@ fn refusal(number: u8, place: u32) -> Verdict {
     }
 }
 
+/// C12.2, C12.6.
 fn acceptance(total: u32, tests: u64) -> Verdict {
     Verdict {
         tests,
@@ -37,7 +39,7 @@ fn acceptance(total: u32, tests: u64) -> Verdict {
     }
 }
 
-/// The report's bytes: number, node, transition, zero, four of the place, the values.
+/// C14.1, C14.2, C14.3: the report's bytes.
 fn report(verdict: &Verdict) -> Vec<u8> {
     let mut bytes = vec![verdict.number, verdict.node, verdict.transition, 0];
     bytes.extend(verdict.at.to_le_bytes());
@@ -47,7 +49,7 @@ fn report(verdict: &Verdict) -> Vec<u8> {
     bytes
 }
 
-/// Both give this verdict, and write its report to the start of the buffer and nothing behind it.
+/// Both give this verdict, and write its report to the start of the buffer. C14.6: the rest stays.
 #[track_caller]
 fn answers(file: &[u8], expected: Verdict) {
     for (name, check, _) in CHECKERS {

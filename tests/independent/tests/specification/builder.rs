@@ -133,7 +133,7 @@ pub fn double_edge(transition: u8, from: i16, to: i16) -> Bytes {
     record(0x07, transition, from, to, 1)
 }
 
-/// One variable 0..2, start v = 0: how the marked examples begin.
+/// One variable 0..2, start v = 0: how the small files begin.
 pub fn counter() -> Bytes {
     join(&[variable(0, 2), start(is(0))])
 }
@@ -168,6 +168,7 @@ pub fn count(file: &[u8]) -> u32 {
 
 // Asking.
 
+/// C14.5, C14.6: the report is written to the first 32 bytes, and the others stay.
 pub fn verdict(file: &[u8]) -> Verdict {
     let mut report = [0xAA; 40];
     let verdict = check(file, &mut report);
@@ -176,7 +177,7 @@ pub fn verdict(file: &[u8]) -> Verdict {
     verdict
 }
 
-/// The report as the paper lays it out.
+/// C14.1, C14.2, C14.3: the report of a verdict.
 fn bytes(verdict: &Verdict) -> Vec<u8> {
     let mut report = vec![verdict.number, verdict.node, verdict.transition, 0];
     report.extend(verdict.at.to_le_bytes());
@@ -186,8 +187,8 @@ fn bytes(verdict: &Verdict) -> Vec<u8> {
     report
 }
 
-/// Number and place or total of a verdict that names no condition. Every test of an accepted file
-/// is made, and none of a refused one.
+/// Number and place or total of a verdict that names no condition. C12.6: nothing is named. C12.7:
+/// every test of an accepted file is made, and none of a refused one.
 pub fn unnamed(file: &[u8]) -> (u8, u32) {
     let verdict = verdict(file);
     assert_eq!((verdict.node, verdict.transition), (255, 255));

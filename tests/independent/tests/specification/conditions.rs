@@ -17,6 +17,7 @@ fn set(just: u8, number: Bytes) -> Bytes {
     transition(just, yes(), &[assign(0, number)])
 }
 
+/// C8.3, C8.4, C8.5, C8.6.
 #[test]
 fn conditions_in_order() {
     assert_eq!(numbers(&examples::b()), [13, 15, 16, 17]);
@@ -24,6 +25,7 @@ fn conditions_in_order() {
     assert_eq!(numbers(&examples::h()), [14, 15, 15, 15, 16, 17, 16, 17]);
 }
 
+/// C8.3, C8.6: enabling only where the transition has double edges from the node.
 #[test]
 fn enabling_follows_the_step_of_the_double_transition() {
     let file = join(&[
@@ -45,6 +47,7 @@ fn enabling_follows_the_step_of_the_double_transition() {
     assert_eq!(conditions(&file)[15], enabling(2, 2));
 }
 
+/// C8.15; C12.2: at is the total.
 #[test]
 fn totals() {
     for t in 0..4 {
@@ -65,6 +68,7 @@ fn totals() {
     }
 }
 
+/// C1.10, C1.11.
 #[test]
 fn the_property_is_told() {
     let claim = |file: Bytes| read(&file).unwrap().claim;
@@ -76,6 +80,7 @@ fn the_property_is_told() {
     }
 }
 
+/// C8.7, C10.13; C12.3: start has neither node nor transition; C4.2.
 #[test]
 fn start_broken() {
     let file = join(&[
@@ -90,6 +95,7 @@ fn start_broken() {
     assert_eq!(verdict(&file).values[1..], [0; 11]);
 }
 
+/// C8.8, C10.14; C12.3: nor has entry.
 #[test]
 fn entry_broken() {
     let file = join(&[
@@ -102,6 +108,7 @@ fn entry_broken() {
     assert_eq!(verdict(&file).values[0], 2);
 }
 
+/// C8.5, C8.6: they have an entry, and no start.
 #[test]
 fn wait_for_and_chain_do_not_ask_the_start() {
     let file = join(&[counter(), wait_for(is(2), &[yes()]), node(is(2))]);
@@ -110,6 +117,7 @@ fn wait_for_and_chain_do_not_ask_the_start() {
     assert_eq!(unnamed(&file), (0, 2));
 }
 
+/// C8.9, C10.15; C1.12: the phases' q in their order.
 #[test]
 fn cover_broken() {
     let file = join(&[counter(), invariance(is(0)), node(is(0)), node(yes())]);
@@ -134,6 +142,7 @@ fn cover_broken() {
     assert_eq!(unnamed(&file), (0, 4));
 }
 
+/// C8.2, C8.6, C8.9; C1.12: p before q.
 #[test]
 fn a_chain_covers_its_goal_only() {
     let file = |q| {
@@ -150,6 +159,7 @@ fn a_chain_covers_its_goal_only() {
     assert_eq!(named(&file(is(1))), (15, 0, 255, 1));
 }
 
+/// C8.10, C10.16; C5.2, C8.11: where a value is out of range, the step holds.
 #[test]
 fn range_broken_by_any_assigned_value() {
     let both = transition(
@@ -173,6 +183,7 @@ fn range_broken_by_any_assigned_value() {
     assert_eq!(single(&file, 2, 2), Tested::Fails);
 }
 
+/// C8.10, C10.16.
 #[test]
 fn range_broken_below() {
     let down = set(0, difference(value(0), constant(1)));
@@ -188,6 +199,7 @@ fn range_broken_below() {
     assert_eq!(single(&file, 2, 1), Tested::Holds);
 }
 
+/// C2.5, C8.10; C5.2: no value is clamped.
 #[test]
 fn a_value_beyond_sixteen_bits_is_out_of_range() {
     let wide = product(value(0), constant(1000));
@@ -212,6 +224,24 @@ fn a_value_beyond_sixteen_bits_is_out_of_range() {
     assert_eq!(verdict(&file).values[0], 256);
 }
 
+/// C5.3: w is assigned, v is not.
+#[test]
+fn a_variable_that_is_not_assigned_keeps_its_value() {
+    let file = |assertion| {
+        join(&[
+            variable(0, 1),
+            variable(0, 1),
+            start(no()),
+            transition(0, yes(), &[assign(1, constant(0))]),
+            invariance(yes()),
+            node(assertion),
+        ])
+    };
+    assert_eq!(unnamed(&file(is(1))), (0, 4));
+    assert_eq!(named(&file(equal(value(1), constant(1)))), (17, 0, 0, 3));
+}
+
+/// C8.11, C10.17.
 #[test]
 fn a_transition_without_an_edge_keeps_the_node() {
     let file = |assertion| {
@@ -227,6 +257,7 @@ fn a_transition_without_an_edge_keeps_the_node() {
     assert_eq!(unnamed(&file(is(1))), (0, 7));
 }
 
+/// C8.11, C8.1.
 #[test]
 fn single_edges_allow_the_node_and_the_targets() {
     let file = |edges: &[Bytes]| {
@@ -249,6 +280,7 @@ fn single_edges_allow_the_node_and_the_targets() {
     assert_eq!(named(&file(&[single_edge(0, 1, 1)])), (17, 0, 0, 4));
 }
 
+/// C8.11, C1.14.
 #[test]
 fn an_edge_of_another_transition_does_not_help() {
     let file = |label| {
@@ -266,6 +298,7 @@ fn an_edge_of_another_transition_does_not_help() {
     assert_eq!(unnamed(&file(1)), (0, 1 + 2 + 8));
 }
 
+/// C8.12.
 #[test]
 fn double_edges_leave_the_node() {
     let file = |number: Bytes| {
@@ -300,6 +333,7 @@ fn double_edges_leave_the_node() {
     assert_eq!(unnamed(&two), (0, 2 + 4 + 2));
 }
 
+/// C8.13, C10.18.
 #[test]
 fn enabling_broken() {
     let file = join(&[
@@ -314,6 +348,7 @@ fn enabling_broken() {
     assert_eq!(verdict(&file).values[0], 2);
 }
 
+/// C8.14.
 #[test]
 fn unreachable_states_count() {
     // v stays 0 from the start, yet the node holds at 1 too, and from there v leaves it.
@@ -334,6 +369,7 @@ fn unreachable_states_count() {
     assert_eq!(named(&file), (17, 0, 0, 3));
 }
 
+/// C8.2, C8.5, C8.6.
 #[test]
 fn goals_have_no_range_and_step_conditions() {
     let leave = set(1, constant(7));
@@ -348,6 +384,7 @@ fn goals_have_no_range_and_step_conditions() {
     assert_eq!(unnamed(&file), (0, 2));
 }
 
+/// C4.4, C4.5; C13.3: a single test takes its state by that number.
 #[test]
 fn the_last_variable_is_fastest() {
     let file = join(&[
@@ -379,6 +416,7 @@ fn the_last_variable_is_fastest() {
     }
 }
 
+/// C4.6.
 #[test]
 fn counting_begins_again_at_the_low_end() {
     let last = and(is(1), equal(value(1), constant(-1)));
@@ -393,6 +431,7 @@ fn counting_begins_again_at_the_low_end() {
     assert_eq!(verdict(&file).values[..3], [1, -1, 0]);
 }
 
+/// C4.2, C12.3.
 #[test]
 fn twelve_values_are_reported() {
     let values = [1, -1, 300, -300, 32_767, -32_768, 7, -7, 255, -256, 11, -12];
@@ -408,6 +447,25 @@ fn twelve_values_are_reported() {
     assert_eq!(verdict.values, values);
 }
 
+/// C2.13: start, q and assertion are one truth at three places.
+#[test]
+fn a_truth_is_worth_the_same_wherever_it_stands() {
+    // True where v is 0 or 1.
+    let small = || less(product(value(0), value(0)), sum(value(0), constant(1)));
+    let file = |first| {
+        join(&[
+            variable(-2, 2),
+            start(first),
+            invariance(small()),
+            node(small()),
+        ])
+    };
+    assert_eq!(unnamed(&file(small())), (0, 2));
+    assert_eq!(unnamed(&file(not(not(small())))), (0, 2));
+    assert_eq!(verdict(&file(yes())).values[0], -2);
+}
+
+/// C2.1: left before right; C2.3, C2.4, C2.5, C2.6, C2.7, C2.8, C2.9, C2.10.
 #[test]
 fn truths_and_numbers() {
     // Whether the truth is true at v = 1, w = -2.

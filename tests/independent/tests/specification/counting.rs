@@ -1,4 +1,4 @@
-//! Document 02, item 2: the lowest breaking state, and the tests made, counted by hand.
+//! The lowest breaking state, and the tests made, counted by hand.
 
 use crate::builder::*;
 use crate::examples;
@@ -8,8 +8,9 @@ fn tests(file: &[u8]) -> u64 {
     verdict(file).tests
 }
 
+/// C12.7.
 #[test]
-fn the_marked_examples() {
+fn the_small_files() {
     // Of 3 states each, J of 4. A is broken at condition 3 and state 1, C at 2 and 2, E at 6 and 0.
     assert_eq!(tests(&examples::a()), 3 * 3 + 1 + 1);
     assert_eq!(tests(&examples::b()), 4 * 3);
@@ -40,6 +41,7 @@ fn refused() -> Vec<(u8, Bytes)> {
     ]
 }
 
+/// C12.7: none of the refusals 2 to 10 takes a test.
 #[test]
 fn refusals_without_a_condition_take_no_tests() {
     for (number, file) in refused() {
@@ -48,6 +50,7 @@ fn refusals_without_a_condition_take_no_tests() {
     }
 }
 
+/// C12.7, C10.1; C11.1: 1 is tried before all others.
 #[test]
 fn a_short_buffer_takes_no_tests() {
     // Accepted, broken and refused otherwise.
@@ -72,6 +75,7 @@ fn named_at(file: &[u8]) -> (i16, u64) {
     (verdict.values[0], verdict.tests)
 }
 
+/// C12.7, C12.10; C4.1: all values of the range are there, and no others.
 #[test]
 fn broken_at_the_first_and_at_the_last_state() {
     // Ten states, -4 to 5; condition 0 holds at each.
@@ -90,6 +94,7 @@ fn broken_at_the_first_and_at_the_last_state() {
     assert_eq!(named_at(&start_at(is(5))), (5, 10));
 }
 
+/// C12.5, C12.7.
 #[test]
 fn of_several_breaking_states_the_lowest() {
     let file = |q| covered(&[variable(-4, 5)], q);
@@ -109,6 +114,7 @@ fn of_several_breaking_states_the_lowest() {
     }
 }
 
+/// C12.4, C12.10: a higher condition is broken at a lower state.
 #[test]
 fn the_condition_goes_before_the_state() {
     // The cover of node 0 is broken at state 2 only, that of node 1 at state 0 too.
@@ -124,6 +130,7 @@ fn the_condition_goes_before_the_state() {
     assert_eq!(single(&file, 2, 0), Tested::Fails);
 }
 
+/// C4.4, C12.5, C12.7.
 #[test]
 fn the_last_of_two_variables_counts_fastest() {
     // -1..1 and 5..8: state 4 (v + 1) + (w - 5) of 12.
@@ -144,6 +151,7 @@ fn the_last_of_two_variables_counts_fastest() {
     assert_eq!(at(two), (-1, 6, 12 + 1 + 1));
 }
 
+/// C1.8, C12.7.
 #[test]
 fn no_transitions() {
     // Start and two covers; entry and one cover: of three states.
@@ -155,6 +163,7 @@ fn no_transitions() {
     assert_eq!(named_at(&file), (1, 3 + 2));
 }
 
+/// C12.7; C10.16, C10.17, C10.18.
 #[test]
 fn each_kind_of_condition() {
     // Chains over -1..2 with nodes "v is 0" and "v is 1 or 2". Conditions: 0 entry, 1 cover,
@@ -194,6 +203,7 @@ fn each_kind_of_condition() {
     );
 }
 
+/// C4.3, C10.7, C12.7.
 #[test]
 fn as_many_states_as_allowed() {
     // 16 × 65,536 = 1,048,576 states.

@@ -10,6 +10,7 @@ fn with_byte(mut file: Bytes, record: usize, byte: usize, value: u8) -> Bytes {
     file
 }
 
+/// C10.3, C1.5: the place is how many records there are.
 #[test]
 fn each_end_inside_b_is_early() {
     let file = examples::b();
@@ -20,6 +21,7 @@ fn each_end_inside_b_is_early() {
     }
 }
 
+/// C10.3, C2.11.
 #[test]
 fn a_kind_that_fits_no_place() {
     for record in 0..21 {
@@ -30,6 +32,7 @@ fn a_kind_that_fits_no_place() {
     }
 }
 
+/// C2.2, C1.8, C1.9, C10.3.
 #[test]
 fn the_wrong_sort_is_a_misfit() {
     let number_as_guard = join(&[counter(), transition(0, constant(1), &[])]);
@@ -42,6 +45,20 @@ fn the_wrong_sort_is_a_misfit() {
     assert_eq!(unnamed(&number_indicated), (3, 4));
 }
 
+/// C1.7, C1.12, C1.13, C10.3: start, q and assertion are truths.
+#[test]
+fn a_number_where_a_truth_must_stand() {
+    let as_start = join(&[variable(0, 2), start(constant(1))]);
+    assert_eq!(unnamed(&as_start), (3, 2));
+    let as_q = join(&[counter(), invariance(constant(1))]);
+    assert_eq!(unnamed(&as_q), (3, 6));
+    let as_second_q = join(&[counter(), wait_for(yes(), &[yes(), value(0)])]);
+    assert_eq!(unnamed(&as_second_q), (3, 8));
+    let as_assertion = join(&[counter(), invariance(yes()), node(value(0))]);
+    assert_eq!(unnamed(&as_assertion), (3, 8));
+}
+
+/// C1.5, C10.3.
 #[test]
 fn a_second_start_or_property_or_a_late_variable() {
     let file = join(&[counter(), start(yes())]);
@@ -54,6 +71,7 @@ fn a_second_start_or_property_or_a_late_variable() {
     assert_eq!(unnamed(&file), (3, 9));
 }
 
+/// C1.5, C10.3.
 #[test]
 fn nothing_follows_an_edge_but_edges() {
     let file = join(&[examples::h(), node(yes())]);
@@ -62,6 +80,7 @@ fn nothing_follows_an_edge_but_edges() {
     assert_eq!(unnamed(&file), (3, count(&examples::h())));
 }
 
+/// C1.6, C10.4.
 #[test]
 fn a_range_may_not_be_empty() {
     let file = join(&[variable(1, 0), start(yes()), invariance(yes()), node(yes())]);
@@ -75,6 +94,7 @@ fn a_range_may_not_be_empty() {
     assert_eq!(unnamed(&file), (0, 2));
 }
 
+/// C1.8, C10.4.
 #[test]
 fn justice_is_0_or_1() {
     let file = join(&[counter(), idle(2), invariance(yes()), node(yes())]);
@@ -83,6 +103,7 @@ fn justice_is_0_or_1() {
     assert_eq!(unnamed(&file), (0, 4));
 }
 
+/// C1.10, C10.4.
 #[test]
 fn a_property_has_one_of_three_kinds() {
     for a in [0, 4, 255] {
@@ -91,6 +112,7 @@ fn a_property_has_one_of_three_kinds() {
     }
 }
 
+/// C1.15, C10.4; C1.14: d is 0 or 1.
 #[test]
 fn names_that_the_file_lacks() {
     let unknown_value = join(&[variable(0, 2), start(equal(value(1), value(0)))]);
@@ -112,6 +134,7 @@ fn names_that_the_file_lacks() {
     assert_eq!(unnamed(&join(&[base, single_edge(0, 0, 0)])), (0, 4));
 }
 
+/// C1.9, C10.6.
 #[test]
 fn a_variable_assigned_again() {
     let twice = transition(0, yes(), &[assign(0, value(0)), assign(0, value(0))]);
@@ -136,6 +159,7 @@ fn a_variable_assigned_again() {
     assert_eq!(unnamed(&file), (0, 6));
 }
 
+/// C11.2.
 #[test]
 fn the_first_record_at_fault_is_named() {
     // 6 at record 9 before 3 at record 11.
@@ -144,6 +168,7 @@ fn the_first_record_at_fault_is_named() {
     assert_eq!(unnamed(&file), (6, 9));
 }
 
+/// C11.2.
 #[test]
 fn at_one_record_the_kind_is_tried_first() {
     for record in 0..21 {
@@ -153,6 +178,7 @@ fn at_one_record_the_kind_is_tried_first() {
     }
 }
 
+/// C11.2.
 #[test]
 fn at_one_record_fields_are_tried_before_repeats() {
     let second = record(0x04, 0, 1, 0, 0);
@@ -166,6 +192,7 @@ fn at_one_record_fields_are_tried_before_repeats() {
     assert_eq!(unnamed(&file(record(0x04, 0, 0, 0, 0))), (6, 9));
 }
 
+/// C11.1.
 #[test]
 fn seven_before_eight_before_nine_before_ten() {
     let part = |high, factor, edges: &[Bytes]| {
@@ -188,6 +215,7 @@ fn seven_before_eight_before_nine_before_ten() {
     assert_eq!(unnamed(&part(3, 1000, &[])), (10, 1));
 }
 
+/// C10.7.
 #[test]
 fn too_many_states_are_placed_at_the_first_variable_past_the_limit() {
     let file = join(&[
@@ -203,6 +231,7 @@ fn too_many_states_are_placed_at_the_first_variable_past_the_limit() {
     assert_eq!(unnamed(&file), (7, 3));
 }
 
+/// C3.1, C3.2, C3.3, C3.4, C10.8.
 #[test]
 fn intervals_of_each_operation() {
     // The ends are -1000..2 and -3..1000.
@@ -251,6 +280,7 @@ fn intervals_of_each_operation() {
     assert_eq!(over(sum(minus_million(), below_zero)), (8, 4));
 }
 
+/// C9.1, C10.9.
 #[test]
 fn edge_rules_of_an_invariance() {
     let base = join(&[
@@ -267,6 +297,7 @@ fn edge_rules_of_an_invariance() {
     assert_eq!(and(single_edge(0, 0, 0)), (0, 7));
 }
 
+/// C9.2, C9.3, C9.4, C10.9.
 #[test]
 fn edge_rules_of_a_wait_for() {
     let base = join(&[
@@ -304,31 +335,33 @@ fn chain_with(edges: &[Bytes]) -> (u8, u32) {
     (number, if number == 9 { at - place } else { at })
 }
 
+/// C9.2, C9.3, C9.5, C9.6, C9.7, C9.8, C10.9.
 #[test]
 fn edge_rules_of_a_chain() {
     let both = [double_edge(0, 1, 0), double_edge(1, 2, 1)];
     let also = |edge: Bytes| chain_with(&[both[0].clone(), both[1].clone(), edge]);
     assert_eq!(chain_with(&both), (0, 2 + 2 * 2 * 3 + 2));
-    // Target not above source, from node 1 up.
+    // C9.2, C9.3.
     assert_eq!(also(single_edge(2, 0, 0)), (9, 2));
     assert_eq!(also(single_edge(2, 1, 2)), (9, 2));
     assert_eq!(also(double_edge(0, 1, 2)), (9, 2));
-    // Double strictly down, on just transitions.
+    // C9.5, C9.6.
     assert_eq!(also(double_edge(0, 1, 1)), (9, 2));
     assert_eq!(
         chain_with(&[double_edge(2, 1, 0), double_edge(1, 2, 1)]),
         (9, 0)
     );
-    // One double transition per node.
+    // C9.7.
     assert_eq!(also(double_edge(0, 2, 1)), (9, 2));
     assert_eq!(also(double_edge(1, 2, 0)), (0, 16));
-    // Never also single there, whichever comes first.
+    // C9.8, whichever comes first.
     assert_eq!(also(single_edge(1, 2, 0)), (9, 2));
     let single_first = [single_edge(1, 2, 0), double_edge(1, 2, 1)];
     assert_eq!(chain_with(&single_first), (9, 1));
     assert_eq!(also(single_edge(1, 1, 0)), (0, 16));
 }
 
+/// C9.9, C10.10.
 #[test]
 fn the_lowest_node_without_a_double_edge() {
     assert_eq!(chain_with(&[]), (10, 1));
@@ -337,12 +370,14 @@ fn the_lowest_node_without_a_double_edge() {
     assert_eq!(chain_with(&[double_edge(0, 2, 0)]), (10, 1));
 }
 
+/// C9.9.
 #[test]
 fn a_goal_alone_needs_no_double_edge() {
     let file = join(&[counter(), chain(yes(), yes()), node(yes())]);
     assert_eq!(unnamed(&file), (0, 2));
 }
 
+/// C13.1, C13.2, C10.11, C10.12.
 #[test]
 fn single_tests_refuse_too() {
     let refused = |number, place| Tested::Refused { number, place };
@@ -359,6 +394,7 @@ fn single_tests_refuse_too() {
     assert_eq!(single(&examples::b(), 0, usize::MAX), refused(12, 0));
 }
 
+/// C11.6, C10.10.
 #[test]
 fn reading_gives_the_refusal() {
     let refusal = read(&examples::g()).unwrap_err();

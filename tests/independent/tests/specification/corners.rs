@@ -1,4 +1,4 @@
-//! The readings of document 01's open places, by their numbers.
+//! Rules that are easily taken otherwise, or that meet.
 
 use crate::builder::*;
 use crate::examples;
@@ -26,7 +26,7 @@ fn every_kind() -> Bytes {
     ])
 }
 
-/// The bytes of the fields that a kind names (b of an invariance is not one).
+/// The bytes to which a kind gives a meaning (b of an invariance is not one).
 fn named_bytes(kind: u8) -> &'static [usize] {
     match kind {
         0x01 => &[2, 3, 4, 5],
@@ -37,8 +37,9 @@ fn named_bytes(kind: u8) -> &'static [usize] {
     }
 }
 
+/// C1.4, C10.4: every byte without a meaning, in a record of each kind.
 #[test]
-fn reading_1_fields_not_named_are_zero() {
+fn idle_fields_are_zero() {
     let file = every_kind();
     assert_eq!(unnamed(&file), (0, 4));
     for record in 0..count(&file) {
@@ -52,8 +53,9 @@ fn reading_1_fields_not_named_are_zero() {
     }
 }
 
+/// C1.4, C1.10.
 #[test]
-fn reading_1_b_of_a_property_is_for_wait_for_only() {
+fn b_of_a_property_is_for_wait_for_only() {
     for a in [1, 3] {
         let file = join(&[
             counter(),
@@ -74,8 +76,9 @@ fn reading_1_b_of_a_property_is_for_wait_for_only() {
     assert_eq!(unnamed(&file), (0, 2));
 }
 
+/// C1.11, C11.5.
 #[test]
-fn reading_2_phases_outside_their_range() {
+fn phases_outside_their_range() {
     for b in [0, 33, -1, i16::MIN, i16::MAX] {
         let file = join(&[counter(), record(0x05, 2, b, 0, 0)]);
         assert_eq!(unnamed(&file), (4, 5));
@@ -93,8 +96,9 @@ fn nots(times: usize, truth: Bytes) -> Bytes {
     join(&[many(record(0x22, 0, 0, 0, 0), times), truth])
 }
 
+/// C11.2, C11.3: the record one past a limit has a field or a kind that is refused before.
 #[test]
-fn reading_3_fields_before_limits() {
+fn fields_before_limits() {
     let thirteenth = |last: Bytes| unnamed(&join(&[many(variable(0, 0), 12), last]));
     assert_eq!(thirteenth(variable(0, 0)), (5, 12));
     assert_eq!(thirteenth(variable(1, 0)), (4, 12));
@@ -118,8 +122,9 @@ fn reading_3_fields_before_limits() {
     assert_eq!(unnamed(&unfit), (4, place));
 }
 
+/// C11.2, C11.3, C10.5.
 #[test]
-fn reading_3_edges_one_past() {
+fn edges_one_past() {
     let file = edges_up_to(512);
     let place = count(&file);
     assert_eq!(
@@ -148,8 +153,9 @@ pub fn edges_up_to(number: i16) -> Bytes {
     ])
 }
 
+/// C2.12, C11.3.
 #[test]
-fn reading_3_level_17() {
+fn level_17() {
     let deep = |last: Bytes| unnamed(&join(&[variable(0, 2), start(nots(16, last))]));
     assert_eq!(deep(yes()), (5, 18));
     assert_eq!(deep(record(0x20, 0, 1, 0, 0)), (4, 18));
@@ -162,8 +168,9 @@ fn reading_3_level_17() {
     assert_eq!(numbers(less(yes(), value(0))), (3, 18));
 }
 
+/// C11.4, C1.13.
 #[test]
-fn reading_4_too_few_nodes() {
+fn too_few_nodes() {
     let none = join(&[counter(), invariance(yes())]);
     assert_eq!(unnamed(&none), (3, count(&none)));
     let edge_for_node = join(&[none.clone(), single_edge(0, 0, 0)]);
@@ -182,19 +189,21 @@ fn reading_4_too_few_nodes() {
     assert_eq!(unnamed(&join(&[two_of_three, node(yes())])).0, 0);
 }
 
+/// C10.6, C1.14.
 #[test]
-fn reading_5_an_edge_repeats_whatever_d_is() {
+fn an_edge_repeats_whatever_d_is() {
     let file = join(&[examples::d(), single_edge(0, 1, 0)]);
     assert_eq!(unnamed(&file), (6, count(&examples::d())));
     let file = join(&[examples::d(), double_edge(0, 1, 0)]);
     assert_eq!(unnamed(&file), (6, count(&examples::d())));
-    // Another target: 9 for "never also single there".
+    // C9.8: with another target the same edge is refused with 9.
     let file = join(&[examples::d(), single_edge(0, 2, 0)]);
     assert_eq!(unnamed(&file), (9, count(&examples::d())));
 }
 
+/// C9.2, C9.3, C9.7: several double edges of one transition pass, a single one to its own node too.
 #[test]
-fn reading_6_chain_edges() {
+fn edges_that_a_chain_may_have() {
     let two = |edges: &[Bytes]| {
         let file = join(&[
             counter(),
@@ -226,8 +235,9 @@ fn reading_6_chain_edges() {
     assert_eq!(two(&from_goal), 9);
 }
 
+/// C3.5, C10.8.
 #[test]
-fn reading_7_operands_judged_first() {
+fn operands_judged_first() {
     let out = |left, right| product(constant(left), constant(right));
     let in_start = |truth: Bytes| {
         let file = join(&[variable(0, 2), start(truth), invariance(yes()), node(yes())]);
@@ -245,8 +255,9 @@ fn reading_7_operands_judged_first() {
     assert_eq!(in_start(implies(no(), less(constant(0), hidden))), (8, 10));
 }
 
+/// C3.5, C10.8.
 #[test]
-fn reading_7_expressions_in_file_order() {
+fn expressions_in_file_order() {
     let out = || less(product(constant(1000), constant(1001)), constant(0));
     let parts = |bad: usize| {
         let truth = |at| if at == bad { out() } else { yes() };
@@ -273,8 +284,9 @@ fn reading_7_expressions_in_file_order() {
     assert_eq!(unnamed(&late_and_early), (8, 5));
 }
 
+/// C10.2, C10.10, C10.11: the places; C11.1: 11 is tried before 12.
 #[test]
-fn reading_8_places() {
+fn places() {
     let both_too_large = Tested::Refused {
         number: 11,
         place: 0,
@@ -284,8 +296,9 @@ fn reading_8_places() {
     assert_eq!(unnamed(&examples::g()), (10, 2));
 }
 
+/// C12.3, C8.3.
 #[test]
-fn reading_9_nodes_and_transitions_of_conditions() {
+fn nodes_and_transitions_of_conditions() {
     let both = |condition: &Condition| (condition.node(), condition.transition());
     let of =
         |file: &[u8]| -> Vec<_> { read(file).unwrap().conditions().iter().map(both).collect() };
@@ -300,8 +313,9 @@ fn reading_9_nodes_and_transitions_of_conditions() {
     assert_eq!(d[5..], [at(2, 0); 3]);
 }
 
+/// C8.13; C12.4: the range condition has a lower number.
 #[test]
-fn reading_10_enabling_asks_for_values_in_range() {
+fn enabling_asks_for_values_in_range() {
     // The guard is true at v = 2, the value 3 out of range; node 1 holds there.
     let up = transition(1, yes(), &[assign(0, sum(value(0), constant(1)))]);
     let file = join(&[
@@ -325,8 +339,9 @@ fn reading_10_enabling_asks_for_values_in_range() {
     assert_eq!(named(&file), (16, 1, 0, 2));
 }
 
+/// C1.8: there may be none; C9.9: then only a chain of one node can be read.
 #[test]
-fn reading_11_no_transitions() {
+fn no_transitions() {
     let many =
         |property: Bytes, nodes: usize| join(&[counter(), property, node(yes()).repeat(nodes)]);
     assert_eq!(unnamed(&many(invariance(yes()), 3)), (0, 4));
@@ -335,8 +350,9 @@ fn reading_11_no_transitions() {
     assert_eq!(unnamed(&many(chain(yes(), yes()), 2)), (10, 1));
 }
 
+/// C1.11, C8.8: p must lead to the goal, the only node.
 #[test]
-fn reading_11_one_phase() {
+fn one_phase() {
     let file = |p| join(&[counter(), count_up(0), wait_for(p, &[is(0)]), node(is(0))]);
     assert_eq!(unnamed(&file(is(0))), (0, 2));
     assert_eq!(named(&file(is(1))), (14, 255, 255, 0));

@@ -1,30 +1,30 @@
-//! "Marked examples of this checker", with full reports, and "Others".
+//! The small files A to J, with their whole reports, and some at a limit.
 
 use crate::builder::*;
 use independent::{check, single, Tested};
 
 const A: [&str; 21] = [
-    "010000000200",
-    "020000000000",
-    "270000000000",
-    "110000000000",
-    "100000000000",
-    "030000000000",
-    "280000000000",
-    "110000000000",
-    "100002000000",
-    "040000000000",
-    "120000000000",
-    "110000000000",
-    "100001000000",
-    "050100000000",
-    "290000000000",
-    "110000000000",
-    "100002000000",
-    "060000000000",
-    "290000000000",
-    "110000000000",
-    "100001000000",
+    "0100000002000000",
+    "0200000000000000",
+    "2700000000000000",
+    "1100000000000000",
+    "1000000000000000",
+    "0300000000000000",
+    "2800000000000000",
+    "1100000000000000",
+    "1000020000000000",
+    "0400000000000000",
+    "1200000000000000",
+    "1100000000000000",
+    "1000010000000000",
+    "0501000000000000",
+    "2900000000000000",
+    "1100000000000000",
+    "1000020000000000",
+    "0600000000000000",
+    "2900000000000000",
+    "1100000000000000",
+    "1000010000000000",
 ];
 
 fn byte(hex: &str, at: usize) -> u8 {
@@ -34,8 +34,7 @@ fn byte(hex: &str, at: usize) -> u8 {
 pub fn a() -> Bytes {
     let mut file = Vec::new();
     for record in A {
-        file.extend((0..6).map(|at| byte(record, at)));
-        file.extend([0, 0]);
+        file.extend((0..8).map(|at| byte(record, at)));
     }
     file
 }
@@ -139,64 +138,76 @@ fn expect(file: &[u8], head: &str, values: &str) {
     assert_eq!(printed(file), format!("{head}{values:0<48}"));
 }
 
+/// C1.1, C1.2, C1.3: the bytes of a file; C8.11, C10.17, C14.1, C14.2, C14.3.
 #[test]
 fn a_breaks_its_step() {
     assert_eq!(a(), like_a(below_two(), at_most(value(0), constant(1))));
     expect(&a(), "1100000003000000", "0100");
 }
 
+/// C12.2.
 #[test]
 fn b_is_accepted() {
     expect(&b(), "00ffff0004000000", "");
 }
 
+/// C8.10, C10.16.
 #[test]
 fn c_breaks_its_range() {
     expect(&c(), "1000000002000000", "0200");
 }
 
+/// C12.2, C8.6.
 #[test]
 fn d_is_accepted() {
     expect(&d(), "00ffff0008000000", "");
 }
 
+/// C8.12, C10.17.
 #[test]
 fn e_breaks_the_step_of_node_2() {
     expect(&e(), "1102000006000000", "0000");
 }
 
+/// C5.5, C9.6, C10.9.
 #[test]
 fn f_breaks_an_edge_rule() {
     let place = count(&f()) - 2;
     expect(&f(), &format!("09ffff00{place:02x}000000"), "");
 }
 
+/// C9.9, C10.10.
 #[test]
 fn g_lacks_a_double_edge() {
     expect(&g(), "0affff0002000000", "");
 }
 
+/// C12.2, C8.5.
 #[test]
 fn h_is_accepted() {
     expect(&h(), "00ffff0008000000", "");
 }
 
+/// C9.3, C10.9.
 #[test]
 fn i_breaks_an_edge_rule() {
     let place = count(&i()) - 1;
     expect(&i(), &format!("09ffff00{place:02x}000000"), "");
 }
 
+/// C5.1: the two variables are swapped.
 #[test]
 fn j_is_accepted() {
     expect(&j(), "00ffff0004000000", "");
 }
 
+/// C10.3.
 #[test]
 fn no_bytes() {
     assert_eq!(unnamed(&[]), (3, 0));
 }
 
+/// C10.2.
 #[test]
 fn seven_bytes() {
     assert_eq!(unnamed(&[1; 7]), (2, 0));
@@ -212,11 +223,13 @@ fn two_ranges(first: i16, second: i16) -> Bytes {
     ])
 }
 
+/// C10.7, C4.3.
 #[test]
 fn ranges_0_to_1023_twice_pass() {
     assert_eq!(unnamed(&two_ranges(1023, 1023)), (0, 2));
 }
 
+/// C10.7, C4.3.
 #[test]
 fn ranges_0_to_1023_and_0_to_1024_are_too_many_states() {
     assert_eq!(unnamed(&two_ranges(1023, 1024)), (7, 1));
@@ -232,16 +245,19 @@ fn multiplying(left: i16, right: i16) -> Bytes {
     ])
 }
 
+/// C3.4.
 #[test]
 fn a_thousand_times_a_thousand_passes() {
     assert_eq!(unnamed(&multiplying(1000, 1000)), (0, 2));
 }
 
+/// C3.4, C10.8.
 #[test]
 fn a_thousand_times_a_thousand_and_one_is_out() {
     assert_eq!(unnamed(&multiplying(1000, 1001)), (8, 4));
 }
 
+/// C13.3, C13.1.
 #[test]
 fn single_tests_of_a() {
     assert_eq!(single(&a(), 3, 0), Tested::Holds);
@@ -249,6 +265,7 @@ fn single_tests_of_a() {
     assert_eq!(single(&a(), 3, 2), Tested::Holds);
 }
 
+/// C14.4, C10.1, C11.1; C12.1, C12.6: the answer has all its parts.
 #[test]
 fn a_short_buffer_is_left_alone() {
     for length in [0, 1, 8, 31] {
@@ -263,6 +280,7 @@ fn a_short_buffer_is_left_alone() {
     assert_eq!(check(&[1; 7], &mut [0; 31]).number, 1);
 }
 
+/// C14.5, C14.6.
 #[test]
 fn a_longer_buffer_is_kept_beyond_the_report() {
     let mut report = [0x77; 50];

@@ -1,7 +1,7 @@
 //! Each limit, at it and one past it.
 
 use crate::builder::*;
-use crate::readings::edges_up_to;
+use crate::corners::edges_up_to;
 
 fn variables(number: usize) -> Bytes {
     join(&[
@@ -12,6 +12,7 @@ fn variables(number: usize) -> Bytes {
     ])
 }
 
+/// C1.6, C10.5.
 #[test]
 fn twelve_variables() {
     assert_eq!(unnamed(&variables(12)), (0, 2));
@@ -38,6 +39,7 @@ fn transitions(number: usize) -> Bytes {
     ])
 }
 
+/// C1.8, C10.5.
 #[test]
 fn thirty_two_transitions() {
     assert_eq!(unnamed(&transitions(32)), (0, 2 + 64));
@@ -48,6 +50,7 @@ fn nodes(property: Bytes, number: usize) -> Bytes {
     join(&[counter(), property, node(yes()).repeat(number)])
 }
 
+/// C1.13, C10.5.
 #[test]
 fn thirty_two_nodes() {
     assert_eq!(unnamed(&nodes(invariance(yes()), 32)), (0, 33));
@@ -56,6 +59,7 @@ fn thirty_two_nodes() {
     assert_eq!(unnamed(&nodes(chain(yes(), yes()), 33)), (5, 8 + 64));
 }
 
+/// C1.13, C1.11, C10.5, C11.4.
 #[test]
 fn as_many_nodes_as_phases() {
     let two = || wait_for(yes(), &[yes(), yes()]);
@@ -67,6 +71,7 @@ fn as_many_nodes_as_phases() {
     assert_eq!(unnamed(&nodes(most(), 33)), (5, 39 + 64));
 }
 
+/// C1.14, C10.5.
 #[test]
 fn five_hundred_and_twelve_edges() {
     let (last, one_past) = (edges_up_to(512), edges_up_to(513));
@@ -83,6 +88,7 @@ fn nested(levels: usize) -> Bytes {
     ])
 }
 
+/// C2.12, C10.5.
 #[test]
 fn sixteen_levels() {
     // An odd number of nots: no state in the node.
@@ -91,6 +97,7 @@ fn sixteen_levels() {
     assert_eq!(unnamed(&nested(17)), (5, 8 + 16));
 }
 
+/// C2.12, C10.5.
 #[test]
 fn sixteen_levels_of_numbers() {
     let deep = |levels: usize| {
@@ -105,6 +112,7 @@ fn sixteen_levels_of_numbers() {
     assert_eq!(unnamed(&one_past), (5, 6 + 31));
 }
 
+/// C2.12, C10.5: an indicator and its truth are levels too.
 #[test]
 fn sixteen_levels_of_both_sorts() {
     let deep = |indicators: usize| {
@@ -129,6 +137,7 @@ fn of_records(number: usize) -> Bytes {
     file
 }
 
+/// C10.2.
 #[test]
 fn four_thousand_and_ninety_six_records() {
     assert_eq!(unnamed(&of_records(4096)), (0, 2));
@@ -148,6 +157,7 @@ fn states(ranges: &[(i16, i16)]) -> Bytes {
     ])
 }
 
+/// C4.3, C10.7.
 #[test]
 fn as_many_states_as_allowed() {
     // 16 × 65,536 = 1,048,576 and 17 × 61,681 = 1,048,577.
@@ -160,6 +170,7 @@ fn as_many_states_as_allowed() {
     assert_eq!(unnamed(&states(&[(i16::MIN, i16::MAX); 12])), (7, 1));
 }
 
+/// C3.3, C3.4, C10.8.
 #[test]
 fn a_million_and_one() {
     let with = |number| {

@@ -1,4 +1,4 @@
-//! Answers worked out by hand, where document 01 leaves a choice or refusals meet.
+//! Refusals of files, at each rule and where several meet.
 
 use super::{answers, refusal, tests, Records, CHECKERS};
 use differential::generate::record;
@@ -66,7 +66,8 @@ fn with_edges(edges: &[[u8; 8]]) -> Records {
     with(chain(), 18..20, edges)
 }
 
-/// Both find the file readable: the next refusal is that there are not so many conditions.
+/// C11.6, C13.2: both find the file readable, the next refusal is that there are not so many
+/// conditions.
 #[track_caller]
 fn readable(records: &Records) {
     let (number, place) = (11, 0);
@@ -74,7 +75,7 @@ fn readable(records: &Records) {
     tests(&records.concat(), usize::MAX, usize::MAX, expected);
 }
 
-/// Both refuse the file, with this number and place, in the check and in a single test.
+/// C13.2: both refuse the file, with this number and place, in the check and in a single test.
 #[track_caller]
 fn refused(number: u8, place: usize, records: &Records) {
     let file = records.concat();
@@ -83,6 +84,7 @@ fn refused(number: u8, place: usize, records: &Records) {
     tests(&file, 0, 0, Tested::Refused { number, place });
 }
 
+/// C1.5, C2.2, C2.11, C10.3, C11.2, C11.4.
 #[test]
 fn kinds() {
     // Files that end early. After any of its nodes a chain may end.
@@ -118,9 +120,10 @@ fn kinds() {
     refused(3, 2, &with(chain(), 2..3, &[[0xff; 8]]));
 }
 
+/// C1.4, C1.6, C1.8, C1.10, C1.11, C1.14, C1.15, C10.4, C11.5.
 #[test]
 fn fields() {
-    // Byte 7, and each byte of a record with no fields named.
+    // C1.4: byte 7, and each byte of a record whose fields are all idle.
     for place in 0..20 {
         let mut records = chain();
         records[place][7] = 1;
@@ -169,6 +172,7 @@ fn fields() {
     refused(4, 11, &no_transition);
 }
 
+/// C1.13, C10.5, C11.2, C11.3.
 #[test]
 fn limits() {
     let one = record(0x01, 0, 5, 5, 0);
@@ -223,6 +227,7 @@ fn limits() {
     refused(4, 75 + 512, &bad);
 }
 
+/// C2.12, C10.5, C11.3.
 #[test]
 fn levels() {
     // The start is record 1, so level n of these is at record 1 + n.
@@ -255,6 +260,7 @@ fn levels() {
     refused(5, 18, &nots(0, &[mixed, open].concat()));
 }
 
+/// C1.9, C10.6, C11.2.
 #[test]
 fn repeats() {
     // Assigned again.
@@ -273,6 +279,7 @@ fn repeats() {
     refused(6, 7, &later);
 }
 
+/// C3.1, C3.3, C3.4, C3.5, C4.3, C10.7, C10.8.
 #[test]
 fn intervals() {
     let ranges = |ranges: &[(i16, i16)]| {
@@ -338,6 +345,7 @@ fn intervals() {
     refused(8, 4, &signs);
 }
 
+/// C9.1, C9.2, C9.3, C9.4, C9.5, C9.6, C9.7, C9.8, C9.9, C10.9, C10.10.
 #[test]
 fn edge_rules() {
     let own = [edge(0, 1, 0, 1), edge(0, 2, 0, 1)];
@@ -400,6 +408,7 @@ fn edge_rules() {
     refused(9, 20, &phased(&[edge(0, 0, 0, 0)]));
 }
 
+/// C11.1.
 #[test]
 fn order() {
     let states = [record(0x01, 0, 0, 2000, 0); 2];
@@ -421,6 +430,7 @@ fn order() {
     refused(6, 24, &records);
 }
 
+/// C10.2.
 #[test]
 fn length() {
     for (name, file, number) in [

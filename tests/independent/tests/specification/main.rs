@@ -1,0 +1,11 @@
+//! Each test cites the clauses of docs/SPECIFICATION.md that it would see broken.
+
+mod agreement;
+mod builder;
+mod conditions;
+mod corners;
+mod counting;
+mod examples;
+mod limits;
+mod refusals;
+mod runs;

@@ -32,7 +32,7 @@ pub fn count(low: [i16; 12], high: [i16; 12]) -> usize
     product
 }
 
-// The state of a number.
+// The state of a number: the last variable is the fastest.
 pub fn state_of(low: [i16; 12], high: [i16; 12], number: usize) -> [i16; 12]
     requires ranges { ⌜ Ranges low high ⌝ }
     requires below { ⌜ number < countOf low high ⌝ }

@@ -1,6 +1,6 @@
 -- Laws of a file that parses.
 --     variables-most, transitions-most, nodes-allowed, nodes-most, edges-most     its counts lie within their limits (C10.5)
---     nodes-least    it has a node, and a wait-for one for each phase (C1.13)
+--     nodes-least    it has a node (C1.13)
 --     variable-range     a variable's range is not empty
 --     edge-names     an edge names a transition and nodes of the file (C1.15)
 --     edges-end      the edges, of one record each, end the file

@@ -130,7 +130,7 @@ module _ (file : List ℕ) (o : Outline) (r : Stages file o) where
         let z : from + (n - from) ≡ n = omega arith in
         rw z at (refuse-all 10 (doubledOf file o) (r .doubles .end) (o .nodes - from) from (rw may at (r .doubles .is)) (n - from) (omega arith))
 
-    -- a node has a double edge, and no other transition has one from it
+    -- a node has a double edge; no other transition has one from it, and that one no single edge
     pub double-transition : (n : ℕ) → propertyAt file (o .property) .from ≤ n → n < o .nodes → DoubleTransition file o n
     unfolding doubledOf
     double-transition n k l =

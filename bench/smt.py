@@ -5,6 +5,11 @@
 '(and (= (* v0 2) (- 1)) (not (< v0 0)))'
 >>> term(((v <= 1) >> (v == 0)) + v)
 '(+ (ite (=> (<= v0 1) (= v0 0)) 1 0) v0)'
+
+By a constant above 0, div and mod of SMT-LIB are quotient and remainder, for negative numbers too.
+
+>>> term((v - 1) // 5 + (v - 1) % 5)
+'(+ (div (- v0 1) 5) (mod (- v0 1) 5))'
 """
 
 import resource
@@ -13,9 +18,9 @@ import subprocess
 
 import vd
 
-SYMBOLS = {vd.SUM: "+", vd.DIFFERENCE: "-", vd.PRODUCT: "*", vd.NOT: "not", vd.AND: "and",
-           vd.OR: "or", vd.IMPLIES: "=>", vd.IFF: "=", vd.EQUAL: "=", vd.LESS: "<",
-           vd.AT_MOST: "<="}
+SYMBOLS = {vd.SUM: "+", vd.DIFFERENCE: "-", vd.PRODUCT: "*", vd.QUOTIENT: "div",
+           vd.REMAINDER: "mod", vd.NOT: "not", vd.AND: "and", vd.OR: "or", vd.IMPLIES: "=>",
+           vd.IFF: "=", vd.EQUAL: "=", vd.LESS: "<", vd.AT_MOST: "<="}
 # Seconds after which z3 is stopped.
 PATIENCE = 120
 

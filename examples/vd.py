@@ -23,10 +23,11 @@ A file is built from expressions in Python:
 >>> d.total()
 8
 
-On numbers there are + - * == != < <= > >=, on truths & | ~ >> (implies) and == (iff). A truth
-used as a number is its indicator, 1 if true, else 0. Long chains of &, | and + are written as
-balanced trees, so that nesting stays low. Nothing here keeps anyone from building a file that the
-checker refuses.
+On numbers there are + - * // % == != < <= > >=, on truths & | ~ >> (implies) and == (iff). // and %
+are by a constant above 0 and round down, as Python does: -7 // 2 is -4, -7 % 2 is 1. A truth used
+as a number is its indicator, 1 if true, else 0. Long chains of &, | and + are written as balanced
+trees, so that nesting stays low. Nothing here keeps anyone from building a file that the checker
+refuses.
 """
 
 import argparse
@@ -46,6 +47,7 @@ BOUND = 1000000
 # Kinds of records.
 RANGE, START, TRANSITION, ASSIGNMENT, PROPERTY, NODE, EDGE = range(0x01, 0x08)
 CONSTANT, VARIABLE, SUM, DIFFERENCE, PRODUCT, INDICATOR = range(0x10, 0x16)
+QUOTIENT, REMAINDER = 0x18, 0x19
 TRUE, FALSE, NOT, AND, OR, IMPLIES, IFF, EQUAL, LESS, AT_MOST = range(0x20, 0x2A)
 
 # The kinds of property: field a of its record.
@@ -106,6 +108,18 @@ class Expression:
 
     def __rmul__(self, other):
         return number(other) * self
+
+    def __floordiv__(self, other):
+        return Number(QUOTIENT, number(self), number(other))
+
+    def __rfloordiv__(self, other):
+        return number(other) // self
+
+    def __mod__(self, other):
+        return Number(REMAINDER, number(self), number(other))
+
+    def __rmod__(self, other):
+        return number(other) % self
 
     def __eq__(self, other):
         if isinstance(self, Truth) and isinstance(other, (Truth, bool)):
@@ -324,7 +338,8 @@ class Diagram:
 # What each kind of expression is, and how many operands of what sort follow.
 SHAPES = {CONSTANT: (Number, 0, None), VARIABLE: (Number, 0, None), INDICATOR: (Number, 1, Truth),
           TRUE: (Truth, 0, None), FALSE: (Truth, 0, None), NOT: (Truth, 1, Truth)}
-SHAPES.update({kind: (Number, 2, Number) for kind in (SUM, DIFFERENCE, PRODUCT)})
+SHAPES.update({kind: (Number, 2, Number)
+               for kind in (SUM, DIFFERENCE, PRODUCT, QUOTIENT, REMAINDER)})
 SHAPES.update({kind: (Truth, 2, Truth) for kind in (AND, OR, IMPLIES, IFF)})
 SHAPES.update({kind: (Truth, 2, Number) for kind in (EQUAL, LESS, AT_MOST)})
 KINDS = {sort: [kind for kind, shape in SHAPES.items() if shape[0] is sort]
@@ -343,8 +358,8 @@ class Unreadable(Exception):
 
 
 class Reading:
-    """What the bytes of a file say, up to the first record that meets one of the refusals 2 to 6.
-    That record is `stop`, None if there is none."""
+    """What the bytes of a file say, up to the first record that meets one of the refusals 2 to 6
+    and 19. That record is `stop`, None if there is none."""
 
     def __init__(self, file):
         self.records = [Fields(*r) for r in struct.iter_unpack(
@@ -474,7 +489,7 @@ class Reading:
                 what, index, "none" if not those else "only %s 0" % what if len(those) == 1 else
                 "%ss 0 to %d" % (what, len(those) - 1)))
 
-    def _expression(self, sort, level=1):
+    def _expression(self, sort, level=1, divisor=False):
         first = self.at
         named = {"b": None} if self._here(CONSTANT) else {"a": None} if self._here(VARIABLE) else {}
         fields = self._take(KINDS[sort], SORT_NAMES[sort], **named)
@@ -482,20 +497,25 @@ class Reading:
         if kind == VARIABLE:
             self._named("variable", fields.a, self.variables)
         self._limit(level - 1, LEVELS, "level of nesting")
+        if divisor and (kind != CONSTANT or fields.b <= 0):
+            self._refuse(19, "%s stands where the divisor must, a constant above 0" % (
+                "constant %d" % fields.b if kind == CONSTANT else "kind %02x" % kind))
         self.at += 1
         _, count, operand_sort = SHAPES[kind]
-        operands = [self._expression(operand_sort, level + 1) for _ in range(count)]
+        divides = kind in (QUOTIENT, REMAINDER)
+        operands = [self._expression(operand_sort, level + 1, divides and i == 1)
+                    for i in range(count)]
         self.expressions[first] = sort(kind, *operands, a=fields.a, b=fields.b)
         return self.expressions[first]
 
 
 # ---- printing
 
-SYMBOLS = {SUM: "+", DIFFERENCE: "-", PRODUCT: "*", AND: "&", OR: "|", IMPLIES: "=>", IFF: "<=>",
-           EQUAL: "=", LESS: "<", AT_MOST: "<="}
+SYMBOLS = {SUM: "+", DIFFERENCE: "-", PRODUCT: "*", QUOTIENT: "//", REMAINDER: "%", AND: "&",
+           OR: "|", IMPLIES: "=>", IFF: "<=>", EQUAL: "=", LESS: "<", AT_MOST: "<="}
 # How tightly an operator binds; an operand that binds less gets parentheses.
 BINDS = {IFF: 1, IMPLIES: 2, OR: 3, AND: 4, NOT: 5, EQUAL: 6, LESS: 6, AT_MOST: 6, SUM: 7,
-         DIFFERENCE: 7, PRODUCT: 8}
+         DIFFERENCE: 7, PRODUCT: 8, QUOTIENT: 8, REMAINDER: 8}
 TIGHTEST = 9
 
 
@@ -520,7 +540,12 @@ class Names:
                                          self.transition(edge.transition))
 
     def expression(self, e, least=0):
-        """The expression as text, in parentheses if it binds less than that."""
+        """The expression as text, in parentheses if it binds less than that.
+
+        >>> v = Variable(0, "v", 0, 9)
+        >>> Names().expression((v - 1) // 5 % 2 - 5 * (v % 5))
+        '(v0 - 1) // 5 % 2 - 5 * (v0 % 5)'
+        """
         text, binds = self._expression(e)
         return text if binds >= least else "(%s)" % text
 
@@ -594,6 +619,7 @@ def value(e, state):
         return state[e.a]
     x, y = ([value(operand, state) for operand in e.written()] + [None, None])[:2]
     return {SUM: lambda: x + y, DIFFERENCE: lambda: x - y, PRODUCT: lambda: x * y,
+            QUOTIENT: lambda: x // y, REMAINDER: lambda: x % y,
             INDICATOR: lambda: int(x), TRUE: lambda: True, FALSE: lambda: False,
             NOT: lambda: not x, AND: lambda: x and y, OR: lambda: x or y,
             IMPLIES: lambda: not x or y, IFF: lambda: x == y, EQUAL: lambda: x == y,
@@ -609,6 +635,10 @@ def interval(e, ranges):
     if e.kind == INDICATOR:
         return 0, 1
     left, right = (interval(operand, ranges) for operand in e.written())
+    if e.kind == QUOTIENT:
+        return left[0] // right[0], left[1] // right[0]
+    if e.kind == REMAINDER:
+        return 0, right[0] - 1
     results = [{SUM: x + y, DIFFERENCE: x - y, PRODUCT: x * y}[e.kind] for x in left for y in right]
     return min(results), max(results)
 
@@ -643,7 +673,10 @@ MEANINGS = {
     16: "range is broken: a node and a guard hold, and a value leaves its range",
     17: "step is broken: a transition leaves its node, not by an edge",
     18: "enabling is broken: a node does not imply its double transition enabled",
+    19: "the divisor of a quotient or remainder is not a constant above 0",
 }
+# Those that end a reading.
+UNREAD = (2, 3, 4, 5, 6, 19)
 STARTS, ENTRY, COVER, IN_RANGE, STEP, ENABLING = range(13, 19)
 CONDITION_NAMES = {STARTS: "start", ENTRY: "entry", COVER: "cover", IN_RANGE: "range", STEP: "step",
                    ENABLING: "enabling"}
@@ -732,7 +765,7 @@ def edge_fault(reading, index):
 def tests_of(report, reading):
     """How many tests lead to the report, of one condition after the other, at one state after the
     other: of all conditions at all states, or up to the state that breaks one."""
-    if 0 < report.number < STARTS:
+    if report.number and report.number not in CONDITION_NAMES:
         return 0
     before = report.at * state_count(reading.variables)
     return before if report.number == 0 else \
@@ -763,9 +796,9 @@ def _explain(report, reading, names):
                               len(list(conditions(reading)))))
         return ["accepted: all %d conditions hold at every state" % report.at]
     out = ["refused, %d: %s" % (report.number, MEANINGS[report.number])]
-    if report.number >= STARTS:
+    if report.number in CONDITION_NAMES:
         return out + _condition(report, reading, names)
-    if 3 <= report.number <= 9:
+    if 3 <= report.number <= 9 or report.number == 19:
         out.append("place: %s %d" % ("variable" if report.number == 7 else "record", report.at))
     elif report.number == 10:
         out.append("place: node %d" % report.at)
@@ -775,9 +808,9 @@ def _explain(report, reading, names):
 
 
 def _place(report, reading, names):
-    """What the file has at the place of a refusal from 2 to 10."""
+    """What the file has at the place of a refusal without a condition."""
     at, stop = report.at, reading.stop
-    if report.number <= 6:
+    if report.number in UNREAD:
         if not stop or report.number > 2 and stop[:2] != (report.number, at):
             raise Mismatch("the report says %d at record %d, but the file %s" % (
                 report.number, at, "can be read to its end" if not stop else

@@ -3,7 +3,7 @@
 from collections import namedtuple
 from pathlib import Path
 
-from vd import state_number
+from vd import CONDITION_NAMES, state_number
 from . import adversarial, drawn, extreme, systems
 
 EXAMPLES = Path(__file__).resolve().parents[2] / "examples"
@@ -22,7 +22,7 @@ def examples():
     """Those that no refusal meets before the conditions."""
     for path in sorted(EXAMPLES.glob("*.vd")):
         answer = path.with_suffix(".txt").read_text().split("\nanswer: ")[1]
-        if not 0 < int(answer[:2], 16) < 13:
+        if int(answer[:2], 16) in (0, *CONDITION_NAMES):
             yield _file(path.stem, path.read_bytes(), ANY, path.stem == "pages-largest")
 
 
@@ -31,6 +31,9 @@ def models():
     yield _file("clocks", systems.clocks())
     yield _file("clocks-broken", systems.clocks(broken=True), (5, 980990))
     yield _file("philosophers", systems.philosophers())
+    yield _file("ring", systems.ring())
+    yield _file("ring-broken", systems.ring(broken=True), (3, 1020101))
+    yield _file("laps", systems.laps())
 
 
 def random():
@@ -66,6 +69,7 @@ def adversaries():
     yield _file("rare", adversarial.rare(), (12, 0))
     for size in (1, 4):
         yield _file("identity-%d" % size, adversarial.identity(size, size))
+    yield _file("ring-order", adversarial.ring_order())
     for transitions in (1, 8):
         yield _file("giant-%d" % transitions, adversarial.giant(transitions))
     for transitions in (1, 16):

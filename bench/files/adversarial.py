@@ -1,7 +1,7 @@
 """Files made against a check of whole boxes of states: intervals decide their conditions only at
 single states, or evaluating a box costs much more than evaluating a state."""
 
-from vd import AND, IFF, OR, Diagram, System, Truth, all_of, false, invariance, true
+from vd import AND, IFF, OR, Diagram, System, Truth, all_of, false, invariance, total, true
 
 # Twelve variables, so many of them in 0..3 and the rest in 0..1.
 SMALL, MIDDLE, LARGE = 0, 4, 8
@@ -125,6 +125,19 @@ def identity(nodes, transitions):
     return diagram(s, same, [(s.variables[t % 2] < 255 - t,
                               [s.variables[t % 2].set(s.variables[t % 2] + 1)])
                              for t in range(transitions)], same, [same] * nodes)
+
+
+def ring_order():
+    """Three readers in a ring of pages, who look only at the one in front: they stay in their order.
+    The ways from each to the next are one round together, in which no interval sees that each page
+    is added once and taken away once."""
+    s, pages = System(), 101
+    readers = [s.variable("page%d" % i, 0, pages - 1) for i in range(3)]
+    ways = [(readers[(i + 1) % 3] - v) % pages for i, v in enumerate(readers)]
+    order = all_of(*(way >= 1 for way in ways), total(ways) == pages)
+    return diagram(s, all_of(v == i for i, v in enumerate(readers)),
+                   [(way >= 2, [v.set((v + 1) % pages)]) for v, way in zip(readers, ways)],
+                   order, [order])
 
 
 def giant(transitions):

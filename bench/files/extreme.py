@@ -6,6 +6,8 @@ from vd import (AND, EQUAL, IFF, IMPLIES, NOT, OR, PRODUCT, SUM, Diagram, Number
 from .adversarial import LARGE, diagram, flips, nested, twelve
 
 ZERO, ONE = number(0), number(1)
+# The greatest constant, above all that the files here count.
+GREATEST = 32767
 
 
 def most(truth, nodes, transitions):
@@ -51,6 +53,7 @@ WORTH = {
     "sum-left": lambda n: Number(SUM, n, ZERO), "sum-right": lambda n: Number(SUM, ZERO, n),
     "product-left": lambda n: Number(PRODUCT, n, ONE),
     "product-right": lambda n: Number(PRODUCT, ONE, n),
+    "quotient": lambda n: n // 1, "remainder": lambda n: n % GREATEST,
 }
 
 

@@ -1,4 +1,4 @@
-"""Models of systems: editors who share a page, clocks, philosophers."""
+"""Models of systems: editors who share a page, clocks, readers in a ring of pages, philosophers."""
 
 from models.pages import NAME, WAITS, Pages, names
 from vd import Diagram, System, all_of, any_of, invariance
@@ -6,6 +6,8 @@ from vd import Diagram, System, all_of, any_of, invariance
 # A philosopher's phases: from LEFT to EATS it has the left fork, from EATS to RIGHT the right one.
 THINKS, HUNGRY, LEFT, EATS, RIGHT = range(5)
 DOWN = 0
+# The pages of a ring, and of a lap.
+RING, LAP = 101, 100
 
 
 def pages_one_node():
@@ -31,6 +33,41 @@ def clocks(broken=False):
     drift = y - x < 10
     s.transition("tick y", all_of(y < 999, any_of(drift, x == 980) if broken else drift),
                  y.set(y + 1))
+    d = Diagram(s, invariance(near))
+    d.node(near)
+    return d
+
+
+def ring(broken=False):
+    """Three readers in a ring of pages, who go on where no other one is on the next page: no two are
+    on one page. A broken first one doesn't look before it goes round: the step of transition 0 is
+    broken, at state 1,020,101."""
+    s = System()
+    page = [s.variable("page%d" % i, 0, RING - 1) for i in range(3)]
+
+    def further(v, least):
+        return all_of((other - v) % RING >= least for other in page if other is not v)
+    s.start(all_of(v == i for i, v in enumerate(page)))
+    for v in page:
+        free = further(v, 2)
+        s.transition("read", any_of(free, v == RING - 1) if broken and v is page[0] else free,
+                     v.set((v + 1) % RING))
+    apart = all_of(further(page[0], 1), page[1] != page[2])
+    d = Diagram(s, invariance(apart))
+    d.node(apart)
+    return d
+
+
+def laps():
+    """Two readers go through the same pages ten times, and neither begins a lap before the other has
+    begun the one before it: they are never two laps apart."""
+    s = System()
+    x, y = s.variable("x", 0, 10 * LAP - 1), s.variable("y", 0, 10 * LAP - 1)
+    near = all_of(x // LAP <= y // LAP + 1, y // LAP <= x // LAP + 1)
+    s.start(all_of(x == 0, y == 0))
+    for v, other in ((x, y), (y, x)):
+        s.transition("read", all_of(v < v.high, any_of(v % LAP < LAP - 1,
+                                                       v // LAP <= other // LAP)), v.set(v + 1))
     d = Diagram(s, invariance(near))
     d.node(near)
     return d

@@ -1,7 +1,7 @@
 """For each refusal that a file can meet in the check, a file with a mistake that is easily made."""
 
 from vd import Diagram, System, all_of, any_of, broken, invariance, refused, true
-from . import counter, pages, peterson
+from . import counter, pages, peterson, ring
 from .example import Example
 
 
@@ -128,6 +128,14 @@ EXAMPLES = [
         clamped to its range; a step with a value outside is not enabled, and a node in which that
         happens is refused.
         """, counter.bounded(guard=true), broken(16, 2, 2, node=0, transition=0)),
+    Example("refused-16-truncated", """
+        The ring of ring-apart, with the reader's step back as a programmer in C would write it. C
+        rounds a quotient towards 0, so that -1 by 5 gives 0, and leaves -1. A file's // and % round
+        down; so C's quotient of n = page - 1 is written out here, as `[0 <= n] * (n // 5)` less
+        `[n < 0] * ((0 - n) // 5)`, and the remainder is n less 5 times that. The checker refuses
+        with 16: the step back from page 0 would set page to -1, and there is no such page. Where n
+        isn't negative both roundings agree, so only this one step shows the mistake.
+        """, ring.apart(ring.truncated), broken(16, 9, 1, 0, 0, node=0, transition=2)),
     Example("refused-17-edge", """
         A mistake in a diagram: two editors with the plain lock and no line under the wrong name,
         with the edge forgotten along which editor 1 writes the name. The checker refuses with 17:
@@ -143,6 +151,14 @@ EXAMPLES = [
         names, in another order.
         """, pages.names(pages.Pages(**TWO, held=False)),
             broken(17, 41, 2, 1, 1, 0, 0, node=1, transition=6)),
+    Example("refused-17-truncated", """
+        refused-16-truncated with the usual mend: 5 is added to C's remainder, and the remainder
+        taken again, so that the step back from page 0 leads to page 4. The round is still counted
+        by C's quotient, 0 where it must be -1. The checker refuses with 17: from page 0 the reader
+        comes to page 4 of the same round, to which the corrector hasn't come yet, and not to that
+        of the round before; no node allows it. What stands there is the text of the round before,
+        and the reader would take it for the corrected one.
+        """, ring.apart(ring.mended), broken(17, 10, 1, 0, 0, node=0, transition=2)),
     Example("refused-18-enabling", """
         Two editors with the plain lock, and the claim that editor 0 gets the page where it waits,
         with one node for all its waiting and the step lock0 as the way on. The checker refuses with
@@ -150,4 +166,10 @@ EXAMPLES = [
         editor 1 has the page.
         """, pages.waiting_only(pages.Pages(**TWO)),
             broken(18, 6, 1, 2, 2, 0, 0, node=1, transition=1)),
+    Example("refused-19-divisor", """
+        The ring of ring-sizes, whose size is a variable, with the remainder by that variable. The
+        checker refuses with 19: a divisor is a constant above 0. Then every quotient has a value,
+        and how large it can be is seen from the file. ring-sizes says the same by a remainder for
+        each size.
+        """, ring.sizes(by_size=True), refused(19, 17)),
 ]

@@ -82,7 +82,7 @@ pub enum Outcome {
     Refused(Refusal),
 }
 
-/// A refusal before any condition, with its number and its place: a record, a variable or a node, by the number.
+/// A refusal before any condition, 1 to 12 or 19, with its number and its place: a record, a variable or a node, by the number.
 #[derive(Clone, Copy, Debug, PartialEq, Eq)]
 pub struct Refusal {
     pub number: u8,
@@ -126,13 +126,22 @@ pub fn check_into(file: &[u8], report: &mut [u8]) -> Verdict {
 ///
 /// ```
 /// assert_eq!(vd::single(&[0; 7], 0, 0), Err(vd::Refusal { number: 2, place: 0 }));
+///
+/// // C10.19, a number above 12 that names no condition: a variable, and a start with a remainder by 0.
+/// let mut file = Vec::new();
+/// for kind in [0x01, 0x02, 0x27, 0x19, 0x11, 0x10] {
+///     file.extend([kind, 0, 0, 0, 0, 0, 0, 0]);
+/// }
+/// let refusal = vd::single(&file, 0, 0).unwrap_err();
+/// assert_eq!(refusal.to_string(), "refused with 19: the divisor of a quotient or remainder is not a constant above 0 (record 5)");
+/// assert_eq!(vd::check(&file).outcome(), vd::Outcome::Refused(refusal));
 /// ```
 pub fn single(file: &[u8], condition: usize, state: usize) -> Result<bool, Refusal> {
     // SAFETY: pointer and length are those of a slice, which the library only reads.
     let tested = unsafe { vd_single(file.as_ptr(), file.len(), condition, state) };
     match tested.number {
         0 => Ok(tested.holds),
-        // The numbers end at 12, and a place is at most a record count: a file of over 32,768 bytes has place 0.
+        // The numbers end at 19, and a place is at most a record count: a file of over 32,768 bytes has place 0.
         number => Err(Refusal {
             number: number as u8,
             place: tested.place as u32,
@@ -147,7 +156,7 @@ impl Verdict {
             0 => Outcome::Accepted {
                 conditions: self.at,
             },
-            13.. => Outcome::Broken {
+            13..=18 => Outcome::Broken {
                 number: self.number,
                 condition: self.at,
                 node: named(self.node),
@@ -205,7 +214,7 @@ impl fmt::Display for Refusal {
     fn fmt(&self, f: &mut fmt::Formatter) -> fmt::Result {
         write!(f, "refused with {}: {}", self.number, meaning(self.number))?;
         match self.number {
-            3..=6 | 8 | 9 => write!(f, " (record {})", self.place),
+            3..=6 | 8 | 9 | 19 => write!(f, " (record {})", self.place),
             7 => write!(f, " (variable {})", self.place),
             10 => write!(f, " (node {})", self.place),
             _ => Ok(()),
@@ -237,6 +246,7 @@ pub fn meaning(number: u8) -> &'static str {
         16 => "range",
         17 => "step",
         18 => "enabling",
+        19 => "the divisor of a quotient or remainder is not a constant above 0",
         _ => "no number of refusal",
     }
 }

@@ -2,6 +2,7 @@
 -- Assumes nothing.
 use mathlib.Core.List.{flatten}
 use Rattle.integers.specs.Bytes
+use Rattle.integers.specs.Quotient
 use Rattle.integers.specs.Interval as Ends
 use Rattle.integers.specs.Radix
 use Rattle.integers.specs.Tests
@@ -32,12 +33,13 @@ unfoldable pub computing : Unit {0}
 unfolding flatten Bytes.signed16 Bytes.lowByte Bytes.highByte Ends.minZ Ends.maxZ Ends.around Ends.overEnds Ends.inBounds
     Radix.at Radix.offsetOf Tests.eqZ
     Record.kindIs Record.zerosOf Record.sameBytes Kind.within Kind.signatureOf
-    Walk.expressionFields Walk.inSequence Walk.operandsOf Walk.recordThen Walk.walkOf Walk.spans Walk.span
+    Walk.expressionFields Walk.inSequence Walk.operandsOf Walk.recordThen Walk.suits Walk.divisorThen Walk.walkOf Walk.spans Walk.span
     Section.variableFields Section.transitionFields Section.assignmentFields Section.propertyFields Section.edgeFields Section.itemsOf
     Section.variablesOf Section.assignmentsOf Section.transitionOf Section.transitionsOf Section.expressionsOf Section.phasesOr
     Section.nodesOf Section.repeatedOf Section.edgesOf Table.tabulate Table.tableOf
     Outline.nodesParsed Outline.propertyParsed Outline.transitionsParsed Outline.startParsed Outline.parsedOf
     Search.any Walk.refuseFirst Number.sizeOf States.sizeAt States.statesOf
+    Quotient.quotient Quotient.remainder Interval.divide Interval.dividedBy
     Interval.leafOf Interval.combine Interval.joinOf Interval.ownOf Interval.byOperands Interval.analysisOf Interval.analysedFrom Interval.intervalsOf
     Property.claimOf Property.propertyOf Section.phasesFit Section.edgeAt Place.placesOf
     Edge.transitionAt Edge.justOf Edge.conflictOf Edge.leadsOf Edge.fallsOf Edge.doubleRuleOf Edge.ruleOf Edge.rulesOf

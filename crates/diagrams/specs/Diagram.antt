@@ -16,7 +16,7 @@ use Rattle.ranges.specs.Range.{lowsOf, highsOf}
 use Rattle.states.specs.Number.{countOf}
 use Rattle.diagrams.specs.declared.Diagram.{Diagram}
 
--- for C11.6: what reading finds: the parts of a file, or the first refusal from 2 to 10
+-- for C11.6: what reading finds: the parts of a file, or the first refusal of 2 to 10 and 19
 unfoldable pub foundOf : List ℕ → Reading
 foundOf file = readOf file
 
@@ -49,7 +49,7 @@ pub record Loaded (file : List ℕ) (g : Diagram) : Type 0 where
   pub found : foundOf file ≡ Reading.Found outline
   pub is : g ≡ diagramOf file outline
 
--- C11.6: no refusal from 2 to 10 meets the file, and g is its diagram
+-- C11.6: none of the refusals 2 to 10 and 19 meets the file, and g is its diagram
 unfoldable pub Readable : List ℕ → Diagram → Type 0
 Readable file g = Loaded file g
 

@@ -1,12 +1,13 @@
 -- What is known of a number on a box of states: the interval that it lies in, within bounds, and a variable to blame for the width.
-use mathlib.Core.Bool.{Bool, cond}
+use mathlib.Core.Bool.{Bool, true, cond}
 use Prim.Native.Nat.{ℕ}
 use lib.Dec.{eqb}
 use lib.IntN.{ℤ, pos, _-ℤ_}
 use lib.Signed.{leZ, ltZ}
 use Rattle.integers.specs.declared.Interval.{Interval}
 use Rattle.integers.specs.Interval.{overEnds, bounds}
-use Rattle.intervals.specs.Interval.{interval, combine as combineOf}
+use Rattle.integers.specs.Tests.{eqZ}
+use Rattle.intervals.specs.Interval.{interval, combine as combineOf, divide as divideOf}
 use Rattle.domains.specs.declared.seen.Seen.{Seen}
 use Rattle.domains.specs.declared.seen.Seen.the-variants.{Yes, No, Unsure}
 use Rattle.domains.specs.declared.extents.Extent.{Extent}
@@ -36,6 +37,17 @@ unfoldable pub combineIn : ℕ → Extent → Extent → Extent
 combineIn kind x y =
     let k = overEnds (combineOf kind) (x .span) (y .span) in
     extentOf (k .low) (k .high) (widerOf x y)
+
+-- whether it rises between low and high: a quotient does, a remainder where both have one quotient
+unfoldable pub risesOf : ℕ → ℤ → ℤ → ℤ → Bool
+risesOf kind low high d = cond (eqb kind 0x18) true (eqZ (divideOf 0x18 low d) (divideOf 0x18 high d))
+
+-- 18 quotient, 19 remainder, by d: between what the two ends give where it rises; any other remainder lies in 0..d - 1
+unfoldable pub divideIn : ℕ → Extent → ℤ → Extent
+divideIn kind x d =
+    let i = x .span in
+    cond (risesOf kind (i .low) (i .high) d) (extentOf (divideOf kind (i .low) d) (divideOf kind (i .high) d) (x .widest))
+    (extentOf (pos 0) (d -ℤ pos 1) (x .widest))
 
 -- 1 where the truth holds, else 0
 unfoldable pub indicatorIn : Seen → Extent

@@ -5,9 +5,10 @@ use crate::seen::opposite;
 use integers::Interval;
 use intervals::combined;
 ghost use mathlib.Core.Path.{_≡_};
-ghost use lib.IntN.{_-ℤ_};
+ghost use lib.IntN.{pos, _-ℤ_};
+ghost use lib.Signed.{_≤ℤ_};
 ghost use Rattle.integers.specs.Inside.{Bounded};
-ghost use Rattle.domains.specs.Extent.{cutOf, extentOf, widerOf, combineIn, indicatorIn, atMostIn, compareIn};
+ghost use Rattle.domains.specs.Extent.{cutOf, extentOf, widerOf, combineIn, risesOf, divideIn, indicatorIn, atMostIn, compareIn};
 
 pub struct Extent {
     pub span: Interval,
@@ -72,6 +73,36 @@ pub fn combine(kind: u8, x: Extent, y: Extent) -> Extent
     let low = k.low;
     let high = k.high;
     spanning(low, high, wider(x, y))
+}
+
+// Whether a quotient, or a remainder, rises between low and high: a remainder does where both have one quotient.
+fn rises(kind: u8, low: i64, high: i64, d: i64) -> bool
+    requires { ⌜ pos 1 ≤ℤ d ⌝ }
+    ensures { λ r. ⌜ r ≡ risesOf kind low high d ⌝ }
+{
+    if kind == 0x18 {
+        return true;
+    }
+    intervals::divide(0x18, low, d) == intervals::divide(0x18, high, d)
+}
+
+// Quotient or remainder by d, by the kind.
+pub fn divide(kind: u8, x: Extent, d: i64) -> Extent
+    requires { ⌜ pos 1 ≤ℤ d ⌝ }
+    ensures { λ r. ⌜ r ≡ divideIn kind x d ⌝ }
+{
+    let i = x.span;
+    let low = i.low;
+    let high = i.high;
+    let widest = x.widest;
+    if rises(kind, low, high, d) {
+        return spanning(
+            intervals::divide(kind, low, d),
+            intervals::divide(kind, high, d),
+            widest,
+        );
+    }
+    spanning(0, d - 1, widest)
 }
 
 // 1 if true, else 0.

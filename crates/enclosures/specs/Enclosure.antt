@@ -4,7 +4,7 @@ use Prim.Native.Nat.{ℕ, zero, suc}
 use lib.ListN.{getD}
 use lib.IntN.{pos}
 use Rattle.records.specs.Form.{Form}
-use Rattle.records.specs.Form.Form.{Constant, Variable, Arithmetic, Indicator, Literal, Negation, Connective, Comparison, Unfit}
+use Rattle.records.specs.Form.Form.{Constant, Variable, Arithmetic, Indicator, Division, Literal, Negation, Connective, Comparison, Unfit}
 use Rattle.records.specs.Record.{kindAt, fieldA, valueB}
 use Rattle.records.specs.Form.{formAt}
 use Rattle.expressions.specs.Expression.{partAt, firstOperand, secondOperand}
@@ -13,7 +13,7 @@ use Rattle.domains.specs.declared.seen.Seen.{Seen}
 use Rattle.domains.specs.declared.seen.Seen.the-variants.{No}
 use Rattle.domains.specs.declared.extents.Extent.{Extent}
 use Rattle.domains.specs.Seen.{oppositeOf, connectIn, literalIn}
-use Rattle.domains.specs.Extent.{extentOf, combineIn, indicatorIn, compareIn}
+use Rattle.domains.specs.Extent.{extentOf, combineIn, divideIn, indicatorIn, compareIn}
 
 -- what is no number counts as 0
 abbrev pub nothing : Extent
@@ -25,6 +25,7 @@ numberInBy levels N T Constant part b = extentOf (valueB part 0) (valueB part 0)
 numberInBy levels N T Variable part b = extentOf (getD (b .low) (fieldA part 0) (pos 0)) (getD (b .high) (fieldA part 0) (pos 0)) (fieldA part 0)
 numberInBy levels N T Arithmetic part b = combineIn (kindAt part 0) (N (firstOperand part)) (N (secondOperand levels part))
 numberInBy levels N T Indicator part b = indicatorIn (T (firstOperand part))
+numberInBy levels N T Division part b = divideIn (kindAt part 0) (N (firstOperand part)) (valueB (secondOperand levels part) 0)
 numberInBy levels N T Literal part b = nothing
 numberInBy levels N T Negation part b = nothing
 numberInBy levels N T Connective part b = nothing
@@ -41,6 +42,7 @@ truthInBy levels N T Constant part = No
 truthInBy levels N T Variable part = No
 truthInBy levels N T Arithmetic part = No
 truthInBy levels N T Indicator part = No
+truthInBy levels N T Division part = No
 truthInBy levels N T Unfit part = No
 
 unfoldable mutual

@@ -3,6 +3,7 @@ use boxes::Box;
 use domains::extents::Extent;
 use domains::extents::combine;
 use domains::extents::compare;
+use domains::extents::divide;
 use domains::extents::indicator;
 use domains::extents::spanning;
 use domains::seen::Seen;
@@ -49,6 +50,11 @@ pub fn number_in(part: &[u8], spans: &[u16; 4096], at: usize, b: Box, levels: us
             let middle = 1 + spans[first] as usize;
             let y = number_in(after(part, middle), spans, at + middle, b, below);
             combine(kind, x, y)
+        }
+        0x18..=0x19 => {
+            let x = number_in(rest, spans, first, b, below);
+            let middle = 1 + spans[first] as usize;
+            divide(kind, x, constant(after(part, middle)))
         }
         _ => indicator(truth_in(rest, spans, first, b, below)),
     }

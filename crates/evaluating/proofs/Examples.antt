@@ -7,6 +7,7 @@ use Prim.Native.Nat.{ℕ, zero, suc, _+_, _*_, _/_}
 use lib.IntN.{ℤ, pos, negℤ}
 use lib.ListN.{length, take, drop, replicate}
 use Rattle.integers.specs.Bytes
+use Rattle.integers.specs.Quotient
 use Rattle.integers.specs.Radix
 use Rattle.integers.specs.Tests
 use Rattle.records.specs.Record
@@ -53,6 +54,13 @@ difference = overTwo 0x13
 
 abbrev product : List ℕ → List ℕ → List ℕ
 product = overTwo 0x14
+
+-- of an expression by a constant
+abbrev quotient : List ℕ → ℕ → List ℕ
+quotient x d = overTwo 0x18 x (constant d)
+
+abbrev remainder : List ℕ → ℕ → List ℕ
+remainder x d = overTwo 0x19 x (constant d)
 
 abbrev indicator : List ℕ → List ℕ
 indicator = over 0x15
@@ -129,6 +137,27 @@ numbers =
     -- C2.6
     (indicator yes, pos 1) ∷
     (indicator no, pos 0) ∷
+    -- C2.14: -7 by 2, -1 by 5, 0, multiples, the ends of the bounds, by 1, by 32,767
+    (quotient (constant 0xfff9) 2, minus 4) ∷
+    (remainder (constant 0xfff9) 2, pos 1) ∷
+    (quotient (constant 0xffff) 5, minus 1) ∷
+    (remainder (constant 0xffff) 5, pos 4) ∷
+    (quotient (variable 11) 5, pos 0) ∷
+    (remainder (variable 11) 5, pos 0) ∷
+    (quotient (variable 1) 3, minus 1) ∷
+    (remainder (variable 1) 3, pos 0) ∷
+    (quotient (product (constant 1000) (constant 1000)) 7, pos 142857) ∷
+    (remainder (product (constant 1000) (constant 1000)) 7, pos 1) ∷
+    (quotient (product (constant 1000) (constant 0xfc18)) 7, minus 142858) ∷
+    (remainder (product (constant 1000) (constant 0xfc18)) 7, pos 6) ∷
+    (quotient (variable 1) 1, minus 3) ∷
+    (remainder (variable 1) 1, pos 0) ∷
+    (quotient (variable 1) 32767, minus 1) ∷
+    (remainder (variable 1) 32767, pos 32764) ∷
+    -- one within the other, over an indicator, and as the second operand: 5 + (-3 - 1 by 5 leaves 1)
+    (remainder (quotient (product (variable 0) (variable 1)) 2) 5, pos 2) ∷
+    (remainder (sum (indicator yes) (constant 4)) 5, pos 0) ∷
+    (sum (variable 0) (remainder (difference (variable 1) (constant 1)) 5), pos 6) ∷
     -- an indicator within a product: 7 times whether -3 < 5
     (product (constant 7) (indicator (less (variable 1) (variable 0))), pos 7) ∷
     (product (indicator (less (variable 0) (variable 1))) (constant 7), pos 0) ∷
@@ -141,7 +170,7 @@ numbers =
     []
 
 numbers-hold : Answers (λ part. Expression.number 16 part here) numbers
-unfolding Bytes.signed16 Kind.within Kind.signatureOf Walk.spans Walk.span Interval.combine
+unfolding Bytes.signed16 Quotient.quotient Quotient.remainder Kind.within Kind.signatureOf Walk.spans Walk.span Interval.combine Interval.divide
     Expression.firstOperand Expression.secondOperand Expression.indicatorOf Expression.compareOf
     Expression.numberBy Expression.truthBy Expression.number
 numbers-hold = answers (λ part. Expression.number 16 part here) numbers refl
@@ -269,6 +298,8 @@ lengths =
     -- where the second operand begins
     (or (and no yes) yes, 5 ∷ 3 ∷ 1 ∷ 1 ∷ 1 ∷ 0 ∷ []) ∷
     (and no (or yes yes), 5 ∷ 1 ∷ 3 ∷ 1 ∷ 1 ∷ 0 ∷ []) ∷
+    -- C2.15: a divisor is an operand by itself
+    (equal (remainder (sum (variable 0) (constant 1)) 5) (constant 0), 7 ∷ 5 ∷ 3 ∷ 1 ∷ 1 ∷ 1 ∷ 1 ∷ 0 ∷ []) ∷
     -- A's start, guard, assigned value, q and node have three records each
     (A, 1 ∷ 1 ∷ 3 ∷ 1 ∷ 1 ∷ 1 ∷ 3 ∷ 1 ∷ 1 ∷ 1 ∷ 3 ∷ 1 ∷ 1 ∷ 1 ∷ 3 ∷ 1 ∷ 1 ∷ 1 ∷ 3 ∷ 1 ∷ 1 ∷ 0 ∷ []) ∷
     []

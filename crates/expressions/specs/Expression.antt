@@ -10,7 +10,7 @@ use lib.Signed.{ltZ, leZ}
 use Rattle.integers.specs.Tests.{eqZ}
 use Rattle.records.specs.Record.{kindAt, fieldA, valueB}
 use Rattle.records.specs.Walk.{span}
-use Rattle.intervals.specs.Interval.{combine}
+use Rattle.intervals.specs.Interval.{combine, divide}
 
 -- ---- parts
 -- for C2.1: the part of a file, or of a part, that begins at record `at`; an expression is known by the part that it begins
@@ -24,7 +24,7 @@ firstOperand part = partAt part 1
 unfoldable pub secondOperand : ℕ → List ℕ → List ℕ
 secondOperand levels part = partAt part (1 + span levels (firstOperand part))
 
--- ---- one record; `combine` is the arithmetic of C2.5
+-- ---- one record; `combine` is the arithmetic of C2.5, `divide` that of C2.14
 -- C2.6: 1 where it is true, else 0
 unfoldable pub indicatorOf : Bool → ℤ
 indicatorOf p = cond p (pos 1) (pos 0)
@@ -44,7 +44,8 @@ numberBy levels N T kind part state =
     cond (eqb kind 0x10) (valueB part 0)
     (cond (eqb kind 0x11) (getD state (fieldA part 0) (pos 0))
     (cond (eqb kind 0x15) (indicatorOf (T (firstOperand part)))
-    (combine kind (N (firstOperand part)) (N (secondOperand levels part)))))
+    (cond (leb 0x18 kind) (divide kind (N (firstOperand part)) (N (secondOperand levels part)))
+    (combine kind (N (firstOperand part)) (N (secondOperand levels part))))))
 
 -- C2.7, C2.8: and the truth, by a truth's kind
 unfoldable pub truthBy : ℕ → (List ℕ → ℤ) → (List ℕ → Bool) → ℕ → List ℕ → Bool
@@ -55,7 +56,7 @@ truthBy levels N T kind part =
     (compareOf kind (N (firstOperand part)) (N (secondOperand levels part)))))
 
 -- ---- numbers hold truths, and truths hold numbers
--- for C2.3 to C2.10: what the expression that begins a part is worth
+-- for C2.3 to C2.10, C2.14: what the expression that begins a part is worth
 unfoldable mutual
   pub number : ℕ → List ℕ → List ℤ → ℤ
   number zero part state = pos 0

@@ -3,6 +3,7 @@ pub mod spans;
 
 use integers::bytes::signed16;
 use integers::state::widen;
+use intervals::divide;
 ghost use mathlib.Core.Path.{_≡_};
 ghost use Prim.Native.Nat.{_+_, _*_, _≤_};
 ghost use lib.ListN.{length, drop};
@@ -87,6 +88,11 @@ pub fn number_at(
             x * operand(after(part, middle), spans, at + middle, state, below)
         }
         0x15 => indicator(truth_at(rest, spans, first, state, below)),
+        0x18..=0x19 => {
+            let x = operand(rest, spans, first, state, below);
+            let middle = 1 + spans[first] as usize;
+            divide(kind, x, constant(after(part, middle)))
+        }
         _ => 0,
     }
 }

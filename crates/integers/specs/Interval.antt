@@ -4,7 +4,7 @@ use lib.IntN.{ℤ, pos, negsuc}
 use lib.Signed.{leZ}
 use Rattle.integers.specs.declared.Interval.{Interval}
 
--- for C3.3: the lesser and the greater of two numbers
+-- for C3.3, C3.7: the lesser and the greater of two numbers
 unfoldable pub minZ : ℤ → ℤ → ℤ
 minZ x y = cond (leZ x y) x y
 

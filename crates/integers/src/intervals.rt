@@ -12,7 +12,7 @@ fn lesser(x: i64, y: i64) -> i64
     if x <= y { x } else { y }
 }
 
-fn greater(x: i64, y: i64) -> i64
+pub fn greater(x: i64, y: i64) -> i64
     ensures { λ r. ⌜ r ≡ maxZ x y ⌝ }
 {
     if x <= y { y } else { x }

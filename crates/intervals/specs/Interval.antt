@@ -4,9 +4,10 @@ use mathlib.Core.Bool.{cond, _&&_}
 use mathlib.Core.List.{List}
 use lib.ListN.{length}
 use lib.Dec.{ltb, leb, eqb}
-use lib.IntN.{ℤ, pos, _+ℤ_, _-ℤ_, _*ℤ_}
+use lib.IntN.{ℤ, pos, natAbs, _+ℤ_, _-ℤ_, _*ℤ_}
 use Rattle.integers.specs.declared.Interval.{Interval}
-use Rattle.integers.specs.Interval.{overEnds, inBounds}
+use Rattle.integers.specs.Interval.{maxZ, overEnds, inBounds}
+use Rattle.integers.specs.Quotient.{quotient, remainder}
 use Rattle.records.specs.declared.walk.Walked.{Walked}
 use Rattle.records.specs.Record.{kindAt, fieldA, valueB, valueC}
 use Rattle.records.specs.Kind.{none, signatureAt}
@@ -31,9 +32,23 @@ leafOf file at =
 unfoldable pub combine : ℕ → ℤ → ℤ → ℤ
 combine kind = cond (eqb kind 0x12) _+ℤ_ (cond (eqb kind 0x13) _-ℤ_ _*ℤ_)
 
--- C3.3: of a record with two operands; a truth's is 0..1
+-- C2.14: 18 quotient, 19 remainder, of n by d, which is above 0
+unfoldable pub divide : ℕ → ℤ → ℤ → ℤ
+divide kind n d = cond (eqb kind 0x18) (quotient n (natAbs d)) (pos (remainder n (natAbs d)))
+
+-- C3.7: of a quotient or remainder, from its first operand's and the divisor
+unfoldable pub dividedBy : ℕ → Interval → ℤ → Interval
+dividedBy kind i d = cond (eqb kind 0x18) (interval (divide 0x18 (i .low) d) (divide 0x18 (i .high) d)) (interval (pos 0) (d -ℤ pos 1))
+
+-- for C3.7: the divisor, which its interval holds alone; 1 where that is lower, as in no file that parses
+abbrev pub divisorOf : Interval → ℤ
+divisorOf j = maxZ (pos 1) (j .low)
+
+-- C3.3, C3.7: of a record with two operands; a truth's is 0..1
 unfoldable pub joinOf : ℕ → Interval → Interval → Interval
-joinOf kind i j = cond (leb 0x12 kind && leb kind 0x14) (overEnds (combine kind) i j) unit
+joinOf kind i j =
+    cond (leb 0x12 kind && leb kind 0x14) (overEnds (combine kind) i j)
+    (cond (leb 0x18 kind && leb kind 0x19) (dividedBy kind i (divisorOf j)) unit)
 
 -- C3.4: a record's own interval, once its operands are judged
 unfoldable pub ownOf : Interval → ℕ → ℕ → Analysis

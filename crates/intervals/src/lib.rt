@@ -1,5 +1,8 @@
 // The interval of every number expression, from the variables' ranges: refusal 8.
 use integers::Interval;
+use integers::floor::quotient;
+use integers::floor::remainder;
+use integers::intervals::greater;
 use records::kinds::NONE;
 use records::kinds::signature_at;
 use records::kinds::signature_of;
@@ -7,10 +10,12 @@ use records::walk::Walked;
 use records::wide_value_at;
 ghost use mathlib.Core.Path.{_≡_};
 ghost use Prim.Native.Nat.{_+_, _*_, _≤_};
+ghost use lib.IntN.{pos};
 ghost use lib.ListN.{length};
+ghost use lib.Signed.{_≤ℤ_};
 ghost use Rattle.integers.specs.Interval.{overEnds};
 ghost use Rattle.integers.specs.Inside.{Bounded};
-ghost use Rattle.intervals.specs.Interval.{leafOf, combine, joinOf, ownOf, analysisOf, intervalsOf};
+ghost use Rattle.intervals.specs.Interval.{leafOf, combine, divide, dividedBy, joinOf, ownOf, analysisOf, intervalsOf};
 
 // The interval of an expression and the record behind it, or the record whose own interval is out of bounds.
 pub enum Analysis {
@@ -56,6 +61,37 @@ pub fn combined(kind: u8, i: Interval, j: Interval) -> Interval
     integers::intervals::product(i, j)
 }
 
+// Quotient or remainder of n by d.
+pub fn divide(kind: u8, n: i64, d: i64) -> i64
+    requires { ⌜ pos 1 ≤ℤ d ⌝ }
+    ensures { λ r. ⌜ r ≡ divide kind n d ⌝ }
+{
+    if kind == 0x18 {
+        quotient(n, d)
+    } else {
+        remainder(n, d)
+    }
+}
+
+// The interval of a quotient or remainder, by its first operand's and the divisor.
+fn divided(kind: u8, i: Interval, d: i64) -> Interval
+    requires { ⌜ pos 1 ≤ℤ d ⌝ }
+    ensures { λ r. ⌜ r ≡ dividedBy kind i d ⌝ }
+{
+    let low = i.low;
+    let high = i.high;
+    if kind == 0x18 {
+        return Interval {
+            low: divide(0x18, low, d),
+            high: divide(0x18, high, d),
+        };
+    }
+    Interval {
+        low: 0,
+        high: d - 1,
+    }
+}
+
 // The interval of a record with two operands.
 fn join(kind: u8, i: Interval, j: Interval) -> Interval
     requires left { ⌜ Bounded i ⌝ }
@@ -64,6 +100,10 @@ fn join(kind: u8, i: Interval, j: Interval) -> Interval
 {
     match kind {
         0x12..=0x14 => combined(kind, i, j),
+        0x18..=0x19 => {
+            let low = j.low;
+            divided(kind, i, greater(1, low))
+        }
         _ => Interval { low: 0, high: 1 },
     }
 }

@@ -8,7 +8,8 @@ use Prim.Native.Nat.{ℕ}
 use lib.ListN.{length, take, drop, set, replicate}
 use Rattle.shapes.specs.declared.Reading.{Reading}
 use Rattle.diagrams.specs.Diagram.{foundOf, diagramOf}
-use Rattle.diagrams.proofs.Files.{agree, bytes, range, single, constant, variable, plain, true, A, B, C, D, E, F, G, H, I, J}
+use Rattle.diagrams.proofs.Files.{agree, bytes, range, start, transition, assignment, property, node, single, double}
+use Rattle.diagrams.proofs.Files.{constant, variable, plain, true, is, A, B, C, D, E, F, G, H, I, J}
 use Rattle.conditions.specs.Condition.{conditionsOf}
 use Rattle.verdicts.specs.Verdict
 use Rattle.verdicts.specs.Verdict.{checkOf, singleOf}
@@ -72,8 +73,57 @@ broken =
     (set (set (set J 18 (plain 0x26)) 19 true) 20 true, 0x0f00ff0001000000, 0x0000010000000000, 6) ∷
     []
 
+-- C2.14, C2.15: five pages in a ring, and a reader that begins on page 0 and steps to the page of that number
+abbrev ring : List (List ℕ) → List (List ℕ)
+ring next = (range 0 4 ∷ start ∷ is 0 0) ++ (transition 1 ∷ true ∷ assignment 0 ∷ next)
+
+-- x by 5
+abbrev quotient : List (List ℕ) → List (List ℕ)
+quotient x = plain 0x18 ∷ x ++ (constant 5 ∷ [])
+
+abbrev remainder : List (List ℕ) → List (List ℕ)
+remainder x = plain 0x19 ∷ x ++ (constant 5 ∷ [])
+
+-- the number one more than its page's, and one less
+abbrev onward : List (List ℕ)
+onward = plain 0x12 ∷ variable 0 ∷ constant 1 ∷ []
+
+abbrev back : List (List ℕ)
+back = plain 0x13 ∷ variable 0 ∷ constant 1 ∷ []
+
+-- what `back` leaves by a quotient that is rounded towards 0: less 5 times the quotient of itself, or of 4 more where it is below 0
+abbrev truncated : List (List ℕ)
+truncated =
+    plain 0x13 ∷ back ++ (plain 0x14 ∷ constant 5 ∷ quotient (plain 0x12 ∷ back ++ (plain 0x14 ∷ constant 4 ∷ plain 0x15 ∷ plain 0x28 ∷ back ++ (constant 0 ∷ []))))
+
+-- an invariance that any page satisfies, so that it says: the step leads to a page
+abbrev staysInside : List (List ℕ)
+staysInside = property 1 0 ∷ true ∷ node ∷ true ∷ []
+
+-- a chain: wherever the reader is, it comes to page 2; node i is "i pages before page 2"
+abbrev arrives : List (List ℕ)
+arrives =
+    (property 3 0 ∷ true ∷ is 0 2) ++ away 0 ++ away 1 ++ away 2 ++ away 3 ++ away 4 ++ (double 0 4 3 ∷ double 0 3 2 ∷ double 0 2 1 ∷ double 0 1 0 ∷ [])
+  where
+    away : ℕ → List (List ℕ)
+    away i = node ∷ plain 0x27 ∷ remainder (plain 0x13 ∷ constant 2 ∷ variable 0 ∷ []) ++ (constant i ∷ [])
+
+abbrev rings : List Row
+rings =
+    -- forward and back the remainder wraps; without it, or truncated, the step leaves the ring: from page 4, and back from page 0
+    (ring (remainder onward) ++ staysInside, 0x00ffff0004000000, 0, 20) ∷
+    (ring (remainder back) ++ staysInside, 0x00ffff0004000000, 0, 20) ∷
+    (ring onward ++ staysInside, 0x1000000002000000, 0x0400000000000000, 15) ∷
+    (ring truncated ++ staysInside, 0x1000000002000000, 0, 11) ∷
+    -- forward the reader comes to page 2; back it goes the wrong way, from page 1 to page 0, which is node 2
+    (ring (remainder onward) ++ arrives, 0x00ffff000e000000, 0, 70) ∷
+    (ring (remainder back) ++ arrives, 0x1101000003000000, 0x0100000000000000, 17) ∷
+    -- C10.19: by the variable itself
+    (ring (plain 0x19 ∷ onward ++ (variable 0 ∷ [])) ++ staysInside, 0x13ffff000c000000, 0, 0) ∷
+    []
+
 abbrev table : List Row
-table = marked ++ broken
+table = marked ++ broken ++ rings
 
 -- ---- lists of conditions (C8.3 to C8.6)
 abbrev listed : List ℕ → Reading → List Condition

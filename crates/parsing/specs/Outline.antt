@@ -1,4 +1,4 @@
--- A whole file, section by section: the first refusal from 2 to 6, or the outline.
+-- A whole file, section by section: the first refusal of 2 to 6 and 19, or the outline.
 use Prim.Native.Nat.{ℕ, _+_, _/_, _%_}
 use mathlib.Core.Bool.{cond, _&&_}
 use mathlib.Core.List.{List}

@@ -1,4 +1,4 @@
-// Parses a whole file, section by section: refusals 2 to 6, or its outline.
+// Parses a whole file, section by section: refusals 2 to 6 and 19, or its outline.
 use records::kind_is;
 use records::kinds::TRUTH;
 use records::walk::Walked;
@@ -122,7 +122,7 @@ fn parse_start(file: &[u8], vars: usize, at: usize) -> Reading
     }
 }
 
-// Parses a file: refusals 2 to 6, or where its parts stand.
+// Parses a file: refusals 2 to 6 and 19, or where its parts stand.
 pub fn parse(file: &[u8]) -> Reading
     ensures { λ r. ⌜ r ≡ parsedOf (now (file .entry)) ⌝ }
 {

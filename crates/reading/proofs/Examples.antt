@@ -6,6 +6,7 @@ use mathlib.Core.List.{List, [], _∷_, _++_, map, flatten, List·Memᴰ}
 use Prim.Native.Nat.{ℕ}
 use lib.ListN.{take, drop, set, replicate}
 use Rattle.integers.specs.Bytes
+use Rattle.integers.specs.Quotient
 use Rattle.integers.specs.Interval as Ends
 use Rattle.integers.specs.Radix
 use Rattle.records.specs.Record
@@ -23,8 +24,8 @@ use Rattle.intervals.specs.Interval
 use Rattle.reading.specs.Edge
 use Rattle.reading.specs.Read
 use Rattle.reading.specs.Read.{readOf}
-use Rattle.reading.proofs.Files.{bytes, given, entry, range, start, transition, property, node, nodes, single, double}
-use Rattle.reading.proofs.Files.{constant, plain, true, not, product, A, B, C, D, E, F, G, H, I, J, agree}
+use Rattle.reading.proofs.Files.{bytes, given, entry, range, start, transition, assignment, property, node, nodes, single, double}
+use Rattle.reading.proofs.Files.{constant, variable, plain, true, not, product, A, B, C, D, E, F, G, H, I, J, agree}
 
 -- ---- small files
 -- start, q and one node, all true, behind these variables
@@ -39,9 +40,25 @@ small = over (range 0 2 ∷ [])
 abbrev starting : List (List ℕ) → List (List ℕ)
 starting expression = take 2 small ++ expression ++ drop 3 small
 
+-- x = 0
+abbrev zero : List (List ℕ) → List (List ℕ)
+zero x = plain 0x27 ∷ x ++ (constant 0 ∷ [])
+
 -- b × c = 0
 abbrev vanishes : ℕ → ℕ → List (List ℕ)
-vanishes b c = plain 0x27 ∷ product b c ++ (constant 0 ∷ [])
+vanishes b c = zero (product b c)
+
+-- the small file whose start says that x by the divisor, quotient (0x18) or remainder (0x19), is 0: the divisor is the last record but five
+abbrev dividing : ℕ → List (List ℕ) → List ℕ → List (List ℕ)
+dividing kind x divisor = starting (zero (plain kind ∷ x ++ (divisor ∷ [])))
+
+-- the same of its variable, cut behind the divisor, which is record 5
+abbrev cut : ℕ → List ℕ → List (List ℕ)
+cut kind divisor = take 6 (dividing kind (variable 0 ∷ []) divisor)
+
+-- a thousand times x
+abbrev thousand : List (List ℕ) → List (List ℕ)
+thousand x = plain 0x14 ∷ constant 1000 ∷ x
 
 -- n records not, and behind them a record at level n + 1
 abbrev nested : ℕ → List ℕ → List (List ℕ)
@@ -85,6 +102,55 @@ marked =
     -- C3.3, C3.4, C10.8: a million, and a thousand more
     (starting (vanishes 1000 1000), readable 1 7 0 7 9 1 11 0) ∷
     (starting (vanishes 1000 1001), refused 8 3) ∷
+    []
+
+-- quotients and remainders
+abbrev divisions : List Row
+divisions =
+    -- C2.14, C2.15: divisors from 1 to 32,767
+    (dividing 0x18 (variable 0 ∷ []) (constant 1), readable 1 7 0 7 9 1 11 0) ∷
+    (dividing 0x19 (variable 0 ∷ []) (constant 0x7fff), readable 1 7 0 7 9 1 11 0) ∷
+    -- C10.19: 0, a negative constant, a variable, an indicator, a quotient, and a sum whose operands aren't there
+    (dividing 0x18 (variable 0 ∷ []) (constant 0), refused 19 5) ∷
+    (dividing 0x19 (variable 0 ∷ []) (constant 0), refused 19 5) ∷
+    (dividing 0x19 (variable 0 ∷ []) (constant 0xffff), refused 19 5) ∷
+    (dividing 0x19 (variable 0 ∷ []) (constant 0x8000), refused 19 5) ∷
+    (cut 0x18 (variable 0), refused 19 5) ∷
+    (cut 0x19 (plain 0x15), refused 19 5) ∷
+    (cut 0x19 (plain 0x18), refused 19 5) ∷
+    (cut 0x19 (plain 0x12), refused 19 5) ∷
+    -- C11.2: at the divisor's record 3 comes first, where it is a truth, of no kind or not there; then 4; and the left operand's refusals before all
+    (cut 0x19 true, refused 3 5) ∷
+    (cut 0x19 (plain 0x16), refused 3 5) ∷
+    (take 5 (cut 0x19 true), refused 3 5) ∷
+    (cut 0x19 (entry 0x10 1 0 0 0), refused 4 5) ∷
+    (cut 0x19 (entry 0x10 0 0 1 0), refused 4 5) ∷
+    (cut 0x19 (entry 0x11 1 0 0 0), refused 4 5) ∷
+    (cut 0x19 (entry 0x12 0 1 0 0), refused 4 5) ∷
+    (take 4 (cut 0x19 true) ++ (true ∷ constant 0 ∷ []), refused 3 4) ∷
+    -- C2.14, C1.4: the record itself has no field
+    (starting (zero (entry 0x18 0 5 0 0 ∷ variable 0 ∷ constant 5 ∷ [])), refused 4 3) ∷
+    -- C2.11: the kinds around these begin no expression
+    (dividing 0x16 (variable 0 ∷ []) (constant 1), refused 3 3) ∷
+    (dividing 0x17 (variable 0 ∷ []) (constant 1), refused 3 3) ∷
+    (dividing 0x1a (variable 0 ∷ []) (constant 1), refused 3 3) ∷
+    -- C11.1, C11.2: 19 comes before 6 of a later record, behind that of an earlier one, and before 7 and 8
+    (take 6 A ++ (plain 0x28 ∷ plain 0x19 ∷ variable 0 ∷ constant 0 ∷ take 5 (drop 8 A)) ++ drop 9 A, refused 19 9) ∷
+    (take 6 A ++ (plain 0x28 ∷ plain 0x19 ∷ variable 0 ∷ constant 1 ∷ take 5 (drop 8 A)) ++ drop 9 A, refused 6 15) ∷
+    (take 13 A ++ (assignment 0 ∷ plain 0x19 ∷ variable 0 ∷ constant 0 ∷ drop 13 A), refused 6 13) ∷
+    (range 0 1023 ∷ range 0 1024 ∷ drop 1 (dividing 0x19 (variable 0 ∷ []) (constant 0)), refused 19 6) ∷
+    (dividing 0x19 (product 1000 1001) (constant 0), refused 19 7) ∷
+    (dividing 0x19 (product 1000 1001) (constant 1), refused 8 4) ∷
+    -- C3.7, C3.4: the variable by 1001 leaves 0 to 1,000, by 1002 0 to 1,001, each a thousand times
+    (starting (zero (thousand (plain 0x19 ∷ variable 0 ∷ constant 1001 ∷ []))), readable 1 9 0 9 11 1 13 0) ∷
+    (starting (zero (thousand (plain 0x19 ∷ variable 0 ∷ constant 1002 ∷ []))), refused 8 3) ∷
+    -- a million by 1 is a million; -1 by 2 is rounded down to -1, and a million times that, less 1, is out of bounds; a thousand times 2,001 by 2 is a
+    -- million, a thousand times 2,002 by 2 is out of bounds
+    (dividing 0x18 (product 1000 1000) (constant 1), readable 1 9 0 9 11 1 13 0) ∷
+    (starting (zero (thousand (thousand (plain 0x18 ∷ constant 0xffff ∷ constant 2 ∷ [])))), readable 1 11 0 11 13 1 15 0) ∷
+    (starting (zero (plain 0x13 ∷ thousand (thousand (plain 0x18 ∷ constant 0xffff ∷ constant 2 ∷ [])) ++ (constant 1 ∷ []))), refused 8 3) ∷
+    (starting (zero (thousand (plain 0x18 ∷ constant 2001 ∷ constant 2 ∷ []))), readable 1 9 0 9 11 1 13 0) ∷
+    (starting (zero (thousand (plain 0x18 ∷ constant 2002 ∷ constant 2 ∷ []))), refused 8 3) ∷
     []
 
 -- clause by clause
@@ -140,19 +206,20 @@ choices =
     []
 
 abbrev table : List Row
-table = marked ++ choices
+table = marked ++ divisions ++ choices
 
 -- ---- the theorem
 -- what reading answers, row by row, is the table's other column
 columns : map (λ (row : Row). readOf (flatten (row .0))) table ≡ map (λ (row : Row). row .1) table
 unfolding flatten Bytes.signed16 Ends.minZ Ends.maxZ Ends.around Ends.overEnds Ends.inBounds Radix.offsetOf
     Record.kindIs Record.zerosOf Record.sameBytes Kind.within Kind.signatureOf
-    Walk.expressionFields Walk.inSequence Walk.operandsOf Walk.recordThen Walk.walkOf
+    Walk.expressionFields Walk.inSequence Walk.operandsOf Walk.recordThen Walk.suits Walk.divisorThen Walk.walkOf
     Section.variableFields Section.transitionFields Section.assignmentFields Section.propertyFields Section.edgeFields Section.itemsOf
     Section.variablesOf Section.assignmentsOf Section.transitionOf Section.transitionsOf Section.expressionsOf Section.phasesOr
     Section.nodesOf Section.repeatedOf Section.edgesOf
     Outline.nodesParsed Outline.propertyParsed Outline.transitionsParsed Outline.startParsed Outline.parsedOf
     Search.any Walk.refuseFirst Number.sizeOf States.sizeAt States.statesOf
+    Quotient.quotient Quotient.remainder Interval.divide Interval.dividedBy
     Interval.leafOf Interval.combine Interval.joinOf Interval.ownOf Interval.byOperands Interval.analysisOf Interval.analysedFrom Interval.intervalsOf
     Property.claimOf Property.propertyOf Section.phasesFit Section.edgeAt
     Edge.transitionAt Edge.justOf Edge.conflictOf Edge.leadsOf Edge.fallsOf Edge.doubleRuleOf Edge.ruleOf Edge.rulesOf

@@ -1,4 +1,4 @@
--- Reading a whole file: the first refusal from 2 to 10 that meets it, or its outline. Refusals 2 to 6 are parsing's.
+-- Reading a whole file: the first refusal of 2 to 10 and 19 that meets it, or its outline. 2 to 6 and 19 are parsing's.
 use mathlib.Core.List.{List}
 use Prim.Native.Nat.{ℕ}
 use Rattle.records.specs.Walk.{andThen}
@@ -20,6 +20,6 @@ stagesRead file o =
     andThen Refused (doublesOf file o) λ end.
     Found o
 
--- C11.1, C11.6: 2 to 6, then those
+-- C11.1, C11.6: 2 to 6 and 19, then those
 unfoldable pub readOf : List ℕ → Reading
 readOf file = andFound Refused (parsedOf file) (stagesRead file)

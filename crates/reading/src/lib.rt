@@ -34,7 +34,7 @@ fn read_parsed(file: &[u8], outline: Outline) -> Reading
     Reading::Found(outline)
 }
 
-// Reads a file: the refusals 2 to 10, or where its parts stand.
+// Reads a file: the refusals 2 to 10 and 19, or where its parts stand.
 pub fn read(file: &[u8]) -> Reading
     ensures { λ r. ⌜ r ≡ readOf (now (file .entry)) ⌝ }
 {

@@ -2,7 +2,7 @@
 use Prim.Native.Nat.{ℕ}
 use mathlib.Core.List.{List}
 use Rattle.records.specs.Record.{kindAt}
-use Rattle.records.specs.Kind.{within, none, number, truth, row}
+use Rattle.records.specs.Kind.{within, none, number, truth, divisor, row}
 use Rattle.records.specs.declared.kinds.Signature.{Signature}
 
 pub data Form : Type 0 where
@@ -10,6 +10,7 @@ pub data Form : Type 0 where
   Variable : Form
   Arithmetic : Form
   Indicator : Form
+  Division : Form
   Literal : Form
   Negation : Form
   Connective : Form
@@ -23,11 +24,12 @@ formOf kind =
     (within 0x11 0x11 kind Variable
     (within 0x12 0x14 kind Arithmetic
     (within 0x15 0x15 kind Indicator
+    (within 0x18 0x19 kind Division
     (within 0x20 0x21 kind Literal
     (within 0x22 0x22 kind Negation
     (within 0x23 0x26 kind Connective
     (within 0x27 0x29 kind Comparison
-    Unfit)))))))
+    Unfit))))))))
 
 abbrev pub formAt : List ℕ → ℕ → Form
 formAt file at = formOf (kindAt file at)
@@ -38,6 +40,7 @@ rowOf Constant = row number 0 none none
 rowOf Variable = row number 0 none none
 rowOf Arithmetic = row number 2 number number
 rowOf Indicator = row number 1 truth none
+rowOf Division = row number 2 number divisor
 rowOf Literal = row truth 0 none none
 rowOf Negation = row truth 1 truth none
 rowOf Connective = row truth 2 truth truth

@@ -1,13 +1,16 @@
--- The walk of an expression. It ends behind the expression's last record, or at the first refusal 3, 4 or 5 of its records, tried in that order at each.
+-- The walk of an expression. It ends behind the expression's last record, or at the first refusal 3, 4, 5 or 19 of its records, tried in that order at
+-- each.
 use Prim.Native.Nat.{ℕ, zero, suc, _+_, _*_, _/_}
-use mathlib.Core.Bool.{Bool, cond, _&&_}
+use mathlib.Core.Bool.{Bool, true, cond, _&&_}
 use mathlib.Core.List.{List}
 use lib.ListN.{length, getD, drop}
 use lib.Dec.{ltb, eqb}
+use lib.IntN.{pos}
+use lib.Signed.{ltZ}
 use Rattle.records.specs.declared.walk.Walked.{Walked}
 use Rattle.records.specs.declared.walk.Walked.the-variants.{End, Refused}
-use Rattle.records.specs.Record.{kindAt, fieldA, zerosOf}
-use Rattle.records.specs.Kind.{truth, signatureOf, signatureAt}
+use Rattle.records.specs.Record.{kindAt, fieldA, valueB, zerosOf}
+use Rattle.records.specs.Kind.{truth, divisor, sortFor, signatureOf, signatureAt}
 
 -- C1.4, C1.15, C10.4: a constant's fields, a variable's (C2.4), and those of any other record of an expression
 unfoldable pub expressionFields : List ℕ → ℕ → ℕ → Bool
@@ -34,16 +37,26 @@ operandsOf part a b (suc n) at = andThen Refused (part a at) (inSequence (part b
 -- C10.3, C10.4, C11.2: the record at `at` by itself, then `rest`: 3 where the file ends before it or its kind is not of the sort wanted, then 4
 unfoldable pub recordThen : List ℕ → ℕ → ℕ → ℕ → Walked → Walked
 recordThen file vars want at rest =
-    cond (ltb at (length file / 8) && eqb (signatureAt file at .sort) want)
+    cond (ltb at (length file / 8) && eqb (signatureAt file at .sort) (sortFor want))
     (cond (expressionFields file vars at) rest (Refused 4 at))
     (Refused 3 at)
 
--- C2.12, C10.5, C11.3: the expression of sort `want` at record `at`, with `levels` nesting levels left; with none left its record is one past the limit
+-- C2.15: where a divisor is asked, the record at `at` is a constant above 0
+unfoldable pub suits : List ℕ → ℕ → ℕ → Bool
+suits file want at = cond (eqb want divisor) (eqb (kindAt file at) 0x10 && ltZ (pos 0) (valueB file at)) true
+
+-- C10.19: 19 unless it is, then `rest`
+unfoldable pub divisorThen : List ℕ → ℕ → ℕ → Walked → Walked
+divisorThen file want at rest = cond (suits file want at) rest (Refused 19 at)
+
+-- C2.12, C10.5, C11.2, C11.3: the expression asked for as `want` at record `at`, with `levels` nesting levels left; with none left its record is one past
+-- the limit
 unfoldable pub walkOf : List ℕ → ℕ → ℕ → ℕ → ℕ → Walked
 walkOf file vars zero want at = recordThen file vars want at (Refused 5 at)
 walkOf file vars (suc levels) want at =
     let s = signatureAt file at in
-    recordThen file vars want at (operandsOf (walkOf file vars levels) (s .first) (s .second) (s .operands) (at + 1))
+    recordThen file vars want at
+    (divisorThen file want at (operandsOf (walkOf file vars levels) (s .first) (s .second) (s .operands) (at + 1)))
 
 -- for C2.12: a whole truth
 abbrev pub truthOf : List ℕ → ℕ → ℕ → Walked

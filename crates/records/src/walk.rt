@@ -1,11 +1,14 @@
-// The walk of an expression: where it ends, and the refusals 3, 4 and 5 of its records.
+// The walk of an expression: where it ends, and the refusals 3, 4, 5 and 19 of its records.
+use crate::kinds::DIVISOR;
 use crate::kinds::TRUTH;
 use crate::kinds::signature_at;
+use crate::kinds::sort_for;
+use crate::value_at;
 use crate::zeros;
 ghost use mathlib.Core.Path.{_≡_};
 ghost use Prim.Native.Nat.{_+_, _*_, _≤_};
 ghost use lib.ListN.{length};
-ghost use Rattle.records.specs.Walk.{expressionFields, inSequence, walkOf, truthOf};
+ghost use Rattle.records.specs.Walk.{expressionFields, suits, inSequence, walkOf, truthOf};
 
 // Where the walk of a part of the file ends: at the record behind it, or refused, with the number and the record.
 pub enum Walked {
@@ -35,7 +38,21 @@ fn expression_fields(file: &[u8], at: usize, vars: usize) -> bool
     zeros(file, base + 1, 7)
 }
 
-// Walks the expression of sort `want` at record `at`, with `levels` nesting levels left.
+// Whether, where a divisor is asked, the record at `at` is a constant above 0.
+fn suits(file: &[u8], at: usize, want: u8) -> bool
+    requires { ⌜ 8 * at + 8 ≤ length (now file) ⌝ }
+    ensures { λ r. ⌜ r ≡ suits (now (file .entry)) want at ⌝ }
+{
+    if want != DIVISOR {
+        return true;
+    }
+    if file[8 * at] != 0x10 {
+        return false;
+    }
+    0 < value_at(file, 8 * at + 2)
+}
+
+// Walks the expression asked for as `want`, a sort or a divisor, at record `at`, with `levels` nesting levels left.
 pub fn walk(file: &[u8], at: usize, want: u8, vars: usize, levels: usize) -> Walked
     ensures { λ r. ⌜ r ≡ walkOf (now (file .entry)) vars levels want at ⌝ }
 {
@@ -44,7 +61,7 @@ pub fn walk(file: &[u8], at: usize, want: u8, vars: usize, levels: usize) -> Wal
     }
     let signature = signature_at(file, at);
     let sort = signature.sort;
-    if sort != want {
+    if sort != sort_for(want) {
         return Walked::Refused(3, at);
     }
     if !expression_fields(file, at, vars) {
@@ -52,6 +69,9 @@ pub fn walk(file: &[u8], at: usize, want: u8, vars: usize, levels: usize) -> Wal
     }
     if levels == 0 {
         return Walked::Refused(5, at);
+    }
+    if !suits(file, at, want) {
+        return Walked::Refused(19, at);
     }
     let second = signature.second;
     let mut over = signature.first;

@@ -1,4 +1,4 @@
--- The sections of a file: at each record refusals 3 to 6 in this order (C11.2).
+-- The sections of a file: at each record refusals 3 to 6 in this order, in expressions 19 too (C11.2).
 use Prim.Native.Nat.{ℕ, zero, suc, _+_, _*_, _-_}
 use mathlib.Core.Bool.{Bool, cond, _&&_}
 use mathlib.Core.List.{List}

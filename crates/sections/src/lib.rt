@@ -1,4 +1,4 @@
-// The sections of a file: variables, transitions, property, nodes and edges, with the refusals 3 to 6 of their records.
+// The sections of a file: variables, transitions, property, nodes and edges, with the refusals 3 to 6 of their records and 19 of their expressions'.
 use records::byte_at;
 use records::kind_is;
 use records::kinds::NUMBER;

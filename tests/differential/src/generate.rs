@@ -13,12 +13,12 @@ const STATES: i64 = 1_048_576;
 /// As many records as a file may have.
 pub const RECORDS: usize = 4096;
 
-pub const KINDS: [u8; 23] = [
-    0x01, 0x02, 0x03, 0x04, 0x05, 0x06, 0x07, 0x10, 0x11, 0x12, 0x13, 0x14, 0x15, 0x20, 0x21, 0x22,
-    0x23, 0x24, 0x25, 0x26, 0x27, 0x28, 0x29,
+pub const KINDS: [u8; 25] = [
+    0x01, 0x02, 0x03, 0x04, 0x05, 0x06, 0x07, 0x10, 0x11, 0x12, 0x13, 0x14, 0x15, 0x18, 0x19, 0x20,
+    0x21, 0x22, 0x23, 0x24, 0x25, 0x26, 0x27, 0x28, 0x29,
 ];
 /// Bytes that are no kind, most of them next to one.
-const NO_KINDS: [u8; 8] = [0x00, 0x08, 0x0f, 0x16, 0x1f, 0x2a, 0x81, 0xff];
+const NO_KINDS: [u8; 10] = [0x00, 0x08, 0x0f, 0x16, 0x17, 0x1a, 0x1f, 0x2a, 0x81, 0xff];
 
 pub fn record(kind: u8, a: u8, b: i16, c: i16, d: u8) -> Record {
     let ([b0, b1], [c0, c1]) = (b.to_le_bytes(), c.to_le_bytes());
@@ -92,6 +92,55 @@ struct Grower<'a> {
     tame: bool,
     /// The chance, in percent, of a number whose interval ends close to the bounds.
     limits: usize,
+    /// The chance, in percent, that a number over two numbers is a quotient or remainder.
+    divisions: usize,
+}
+
+/// How often a number over two numbers is a quotient or remainder, in percent.
+const DIVISIONS: usize = 25;
+
+/// How many operands a record of that kind has.
+pub fn operands(kind: u8) -> usize {
+    match kind {
+        0x12..=0x14 | 0x18 | 0x19 | 0x23..=0x29 => 2,
+        0x15 | 0x22 => 1,
+        _ => 0,
+    }
+}
+
+/// Of each record that is an operand the record that it belongs to, and how many operands of that
+/// one stand before it; by the kinds alone.
+pub fn owners(records: &[Record]) -> Vec<Option<(usize, usize)>> {
+    // The records with operands to come, the outermost first, and how many are there.
+    let mut open: Vec<(usize, usize)> = Vec::new();
+    let mut owners = Vec::new();
+    for (number, record) in records.iter().enumerate() {
+        if record[0] < 0x10 {
+            open.clear();
+            owners.push(None);
+            continue;
+        }
+        owners.push(open.last().copied());
+        if let Some((_, there)) = open.last_mut() {
+            *there += 1;
+        }
+        open.push((number, 0));
+        let complete = |&(owner, there): &(usize, usize)| there == operands(records[owner][0]);
+        while open.last().map_or(false, complete) {
+            open.pop();
+        }
+    }
+    owners
+}
+
+/// The numbers of the records that stand as divisors.
+pub fn divisors(records: &[Record]) -> Vec<usize> {
+    let owners = owners(records);
+    let divides = |at: &usize| match owners[*at] {
+        Some((owner, 1)) => matches!(records[owner][0], 0x18 | 0x19),
+        _ => false,
+    };
+    (0..records.len()).filter(divides).collect()
 }
 
 pub type Interval = (i64, i64);
@@ -104,6 +153,8 @@ pub fn combine(kind: u8, left: Interval, right: Interval) -> Interval {
     match kind {
         0x12 => (left.0 + right.0, left.1 + right.1),
         0x13 => (left.0 - right.1, left.1 - right.0),
+        0x18 => (left.0.div_euclid(right.0), left.1.div_euclid(right.0)),
+        0x19 => (0, right.0 - 1),
         _ => {
             let ends = [
                 left.0 * right.0,
@@ -179,6 +230,13 @@ impl Grower<'_> {
             let truth = self.truth(levels - 1, full);
             return (join(0x15, &[&truth]), (0, 1));
         }
+        if self.random.percent(self.divisions) {
+            let (left, interval) = self.number(levels - 1, full);
+            let divisor = self.divisor();
+            let kind = self.random.pick(&[0x18, 0x19]);
+            let interval = combine(kind, interval, (divisor.into(), divisor.into()));
+            return (join(kind, &[&left, &vec![constant(divisor)]]), interval);
+        }
         let spine = self.random.below(2);
         let mut sides = [0, 1].map(|side| {
             let (levels, full) = self.share(levels - 1, full, side == spine);
@@ -222,6 +280,16 @@ impl Grower<'_> {
             _ => self.random.within(-3, 5) as i16,
         };
         (vec![constant(value)], (value.into(), value.into()))
+    }
+
+    /// Mostly a small one, so that the rounding shows.
+    fn divisor(&mut self) -> i16 {
+        match self.random.below(12) {
+            0 => 1,
+            1 => self.random.pick(&[255, 256, 1000, 1001, 32_766, i16::MAX]),
+            2 => 1 + self.random.below(i16::MAX as usize) as i16,
+            _ => self.random.within(2, 6) as i16,
+        }
     }
 
     /// A number whose interval ends at a bound, one before it, or (not tame) one past it; up to
@@ -285,6 +353,11 @@ fn number_of_size(random: &mut Random, size: usize) -> Code {
         0 | 1 if random.percent(50) => vec![record(0x11, 0, 0, 0, 0)],
         0 | 1 => vec![constant(random.within(-3, 3) as i16)],
         2 => join(0x15, &[&truth_of_size(random, 1)]),
+        _ if random.percent(DIVISIONS) => {
+            let kind = random.pick(&[0x18, 0x19]);
+            let divisor = vec![constant(random.within(1, 3) as i16)];
+            join(kind, &[&number_of_size(random, size - 2), &divisor])
+        }
         _ => {
             let kind = random.pick(&[0x12, 0x13]);
             let left = number_of_size(random, (size - 1) / 2);
@@ -320,12 +393,14 @@ enum Twist {
     NoDouble,
     /// A wait-for with a special b.
     Phases,
+    /// Many quotients and remainders, and a divisor that isn't one.
+    Divisor,
     /// As many records as a file may have, or one more.
     Records,
 }
 
 /// The twists with how often they are wanted; those that make long files, seldom.
-const TWISTS: [(Twist, usize); 13] = [
+const TWISTS: [(Twist, usize); 14] = [
     (Twist::Variables, 8),
     (Twist::Transitions, 4),
     (Twist::Nodes, 10),
@@ -338,6 +413,7 @@ const TWISTS: [(Twist, usize); 13] = [
     (Twist::EdgeRules, 20),
     (Twist::NoDouble, 12),
     (Twist::Phases, 4),
+    (Twist::Divisor, 16),
     (Twist::Records, 1),
 ];
 
@@ -480,6 +556,11 @@ impl Draft {
         let mut grower = Grower {
             tame: !special || random.percent(30),
             limits: if special { 30 } else { 2 },
+            divisions: if twists.has(Twist::Divisor) {
+                60
+            } else {
+                DIVISIONS
+            },
             ranges: &ranges,
             random,
         };
@@ -506,6 +587,9 @@ impl Draft {
         }
         if twists.has(Twist::Levels) {
             grower.deepen(&mut draft);
+        }
+        if twists.has(Twist::Divisor) {
+            draft.spoil_divisor(random);
         }
 
         draft.draw(random, plan.edges);
@@ -654,6 +738,35 @@ impl Draft {
         self.edges.insert(at, edge);
     }
 
+    /// The expressions.
+    fn codes(&mut self) -> Vec<&mut Code> {
+        let mut codes: Vec<&mut Code> = vec![&mut self.start];
+        codes.extend(&mut self.truths);
+        codes.extend(&mut self.nodes);
+        for transition in &mut self.transitions {
+            codes.extend(transition.assignments.iter_mut().map(|(_, number)| number));
+            codes.push(&mut transition.guard);
+        }
+        codes
+    }
+
+    /// Spoils one divisor, the deepest or any.
+    fn spoil_divisor(&mut self, random: &mut Random) {
+        let mut codes = self.codes();
+        let mut found: Vec<(usize, usize, usize)> = Vec::new();
+        for (number, code) in codes.iter().enumerate() {
+            let levels = levels(code);
+            found.extend(divisors(code).iter().map(|&at| (levels[at], number, at)));
+        }
+        if let Some(&deepest) = found.iter().max() {
+            let (_, number, at) = match random.percent(40) {
+                true => deepest,
+                false => random.pick(&found),
+            };
+            spoil_divisor(random, codes[number], at);
+        }
+    }
+
     /// Takes the double edges of one or two nodes, or makes them single.
     fn lose_double(&mut self, random: &mut Random) {
         for _ in 0..1 + random.below(2) {
@@ -729,6 +842,63 @@ impl Grower<'_> {
         }
         let place = self.random.below(places.len());
         *places[place] = deep;
+    }
+}
+
+/// The level of each record in its expression, 0 for those outside of expressions.
+pub fn levels(records: &[Record]) -> Vec<usize> {
+    let mut levels: Vec<usize> = Vec::new();
+    for (record, owner) in records.iter().zip(owners(records)) {
+        levels.push(match owner {
+            Some((owner, _)) => levels[owner] + 1,
+            None => usize::from(record[0] >= 0x10),
+        });
+    }
+    levels
+}
+
+/// Puts something else for a divisor, mostly what can't be one; or changes a field of it.
+fn spoil_divisor(random: &mut Random, records: &mut Vec<Record>, at: usize) {
+    let mut small = || vec![constant(random.within(-2, 3) as i16)];
+    let (left, right) = (small(), small());
+    let truth = vec![plain(random.pick(&[0x20, 0x21]))];
+    let new: Code = match random.below(16) {
+        0 | 1 => vec![constant(0)],
+        2 => vec![constant(-1)],
+        3 => vec![constant(random.next() as i16 | i16::MIN)],
+        // Perhaps one that the file lacks.
+        4 | 5 => vec![record(0x11, random.below(4) as u8 / 2, 0, 0, 0)],
+        6 => join(random.pick(&[0x12, 0x13, 0x14]), &[&left, &right]),
+        7 => join(random.pick(&[0x18, 0x19]), &[&left, &right]),
+        8 => join(0x15, &[&truth]),
+        // What follows is taken for its operands, or there is nothing.
+        9 => vec![plain(random.pick(&[0x12, 0x13, 0x14, 0x15, 0x18, 0x19]))],
+        10 => truth,
+        11 => join(random.pick(&[0x27, 0x28, 0x29]), &[&left, &right]),
+        12 => vec![plain(random.pick(&NO_KINDS))],
+        13 => Vec::new(),
+        _ => vec![records[at]],
+    };
+    let fields = new == [records[at]] || random.percent(20);
+    records.splice(at..at + 1, new);
+    if fields && at < records.len() {
+        let byte = 1 + random.below(7);
+        records[at][byte] = field_byte(random, records[at][byte]);
+    }
+}
+
+/// Spoils a divisor of a file if it has one, and may cut the file there or behind it.
+fn damage_divisor(random: &mut Random, records: &mut Vec<Record>) {
+    let divisors = divisors(records);
+    if divisors.is_empty() {
+        return;
+    }
+    let at = random.pick(&divisors);
+    spoil_divisor(random, records, at);
+    match random.below(10) {
+        0 => records.truncate(at),
+        1 | 2 => records.truncate(at + 1),
+        _ => (),
     }
 }
 
@@ -826,8 +996,14 @@ pub fn file(random: &mut Random, samples: &Samples) -> Vec<u8> {
         }
         40..=69 => diagrams::diagram(random).concat(),
         70..=91 => {
-            let mut file = whole(random, samples).concat();
-            for _ in 0..random.pick(&[1, 1, 1, 2, 3]) {
+            let mut records = whole(random, samples);
+            let mut times = random.pick(&[1, 1, 1, 2, 3]);
+            if random.percent(20) {
+                damage_divisor(random, &mut records);
+                times -= 1;
+            }
+            let mut file = records.concat();
+            for _ in 0..times {
                 let at = any_record(random, &file);
                 damage(random, &mut file, at);
             }

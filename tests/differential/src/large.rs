@@ -107,6 +107,36 @@ fn keeping(start: Code, q: Code, node: Code) -> Draft {
     }
 }
 
+/// A number by a divisor.
+fn divide(kind: u8, number: &Code, divisor: i16) -> Code {
+    join(kind, &[number, &value(divisor)])
+}
+
+/// Variable 3 counts up and goes round at 63, variable 1 down and round at -16: v - 1 + 16 leaves
+/// 31 by 32 there. The node: variable 2, in -20..-5, is by 4 at most -2.
+fn going_round() -> Draft {
+    let up = join(0x12, &[&variable(3), &value(1)]);
+    let down = divide(0x19, &join(0x12, &[&variable(1), &value(15)]), 32);
+    let node = join(0x29, &[&divide(0x18, &variable(2), 4), &value(-2)]);
+    let mut draft = keeping(always(), always(), node);
+    draft.transitions[0].assignments = vec![
+        (3, divide(0x19, &up, 64)),
+        (1, join(0x13, &[&down, &value(16)])),
+    ];
+    draft
+}
+
+/// That the variables are 2 by 10, are -2 by 5, leave 5 by 6, leave 7 by 9. The lowest such state is
+/// 20, -10, -19, 7: its number is 20 × 32,768 + 6 × 1,024 + 1 × 64 + 7 = 661,575.
+fn divided() -> Code {
+    let [a, b, c, d] = [(0x18, 10, 2), (0x18, 5, -2), (0x19, 6, 5), (0x19, 9, 7)];
+    let is = |number: u8, (kind, divisor, result)| {
+        equal(&divide(kind, &variable(number), divisor), &value(result))
+    };
+    let low = join(0x23, &[&is(0, a), &is(1, b)]);
+    join(0x23, &[&low, &join(0x23, &[&is(2, c), &is(3, d)])])
+}
+
 pub fn cases() -> Vec<Large> {
     let large = |name, draft: Draft, number, at, tests| Large {
         name,
@@ -144,6 +174,14 @@ pub fn cases() -> Vec<Large> {
             15,
             1,
             1_048_576 + 163_847 + 1,
+        ),
+        large("going round, accepted", going_round(), 0, 4, 4_194_304),
+        large(
+            "quotients and remainders, cover broken in the middle",
+            keeping(always(), not(&divided()), always()),
+            15,
+            1,
+            1_048_576 + 661_575 + 1,
         ),
         large(
             "a wait-for, accepted",

@@ -1,4 +1,5 @@
-//! Files at each limit and one past it, with how they must be read.
+//! Files at each limit and one past it, and with divisors that can and can't be such, with how they
+//! must be read.
 
 use crate::generate::{
     constant, join, plain, record, truth_of_size, value, Code, Draft, Edge, Random, Record,
@@ -22,6 +23,8 @@ pub fn cases() -> Vec<Limit> {
     levels(&mut list);
     states(&mut list);
     intervals(&mut list);
+    divisors(&mut list);
+    divided_intervals(&mut list);
     list.0
 }
 
@@ -420,5 +423,212 @@ fn intervals(list: &mut List) {
             true => list.refused(&name, draft.records(), 8, 4),
             false => list.readable(&name, draft.records()),
         }
+    }
+}
+
+/// A draft whose start compares a quotient or remainder of variable 0, in -1..3, with 0. Its
+/// records: 0 variable, 1 start, 2 comparison, 3 quotient, 4 variable, 5 divisor.
+fn divided(kind: u8, divisor: &Code) -> Draft {
+    let mut draft = draft(INVARIANCE, 1);
+    draft.ranges = vec![(-1, 3)];
+    let number = join(kind, &[&vec![record(0x11, 0, 0, 0, 0)], divisor]);
+    draft.start = join(0x27, &[&number, &vec![constant(0)]]);
+    draft
+}
+
+/// C2.14, C2.15, C10.3, C10.4, C10.19, C11.2.
+fn divisors(list: &mut List) {
+    for kind in [0x18, 0x19] {
+        let records = |divisor: &Code| divided(kind, divisor).records();
+        let name = |text: &str| format!("{text}, kind {kind:x}");
+        for value in [1, 2, i16::MAX] {
+            let by = name(&format!("divisor {value}"));
+            list.readable(&by, records(&vec![constant(value)]));
+        }
+        for value in [0, -1, i16::MIN] {
+            let by = name(&format!("divisor {value}"));
+            list.refused(&by, records(&vec![constant(value)]), 19, 5);
+        }
+        let (one, truth) = (vec![constant(1)], always());
+        for other in [
+            vec![record(0x11, 0, 0, 0, 0)],
+            join(0x12, &[&one, &one]),
+            join(0x14, &[&one, &one]),
+            join(0x15, &[&truth]),
+            join(0x18, &[&one, &one]),
+            join(0x19, &[&one, &one]),
+        ] {
+            let by = name(&format!("divisor of kind {:x}", other[0][0]));
+            list.refused(&by, records(&other), 19, 5);
+            let bad = with_field(records(&other), 5);
+            list.refused(&format!("{by}, field"), bad, 4, 5);
+            if other.len() > 1 {
+                // Its operands aren't read.
+                let mut cut = records(&other);
+                cut.truncate(6);
+                list.refused(&format!("{by}, the file's end"), cut, 19, 5);
+                let mut unfit = records(&other);
+                unfit[6] = plain(0xff);
+                list.refused(&format!("{by}, operand"), unfit, 19, 5);
+            }
+        }
+        let unknown = vec![record(0x11, 1, 0, 0, 0)];
+        list.refused(
+            &name("unknown variable as divisor"),
+            records(&unknown),
+            4,
+            5,
+        );
+        list.refused(&name("truth as divisor"), records(&truth), 3, 5);
+        for no_kind in [0x16, 0x17, 0x1a] {
+            let by = name(&format!("divisor of kind {no_kind:x}"));
+            list.refused(&by, records(&vec![plain(no_kind)]), 3, 5);
+        }
+        let mut cut = records(&one);
+        cut.truncate(5);
+        list.refused(&name("no divisor"), cut, 3, 5);
+        for value in [0, 1] {
+            for byte in [1, 4, 5, 6, 7] {
+                let mut bad = records(&vec![constant(value)]);
+                bad[5][byte] = 1;
+                let field = name(&format!("byte {byte} of divisor {value}"));
+                list.refused(&field, bad, 4, 5);
+            }
+        }
+        for byte in 1..8 {
+            let mut bad = records(&vec![constant(0)]);
+            bad[3][byte] = 1;
+            let field = name(&format!("byte {byte} of the record"));
+            list.refused(&field, bad, 4, 3);
+        }
+        divisors_and_others(list, kind);
+    }
+}
+
+/// C2.12, C10.5, C10.6, C10.19, C11.1, C11.2: 19 with 5 and 6 before it and behind it, and with 7
+/// and 8.
+fn divisors_and_others(list: &mut List, kind: u8) {
+    let name = |text: &str| format!("{text}, kind {kind:x}");
+    let bad = || divided(kind, &vec![constant(0)]);
+    // Operands at level 16 and at level 17, 13 and 14 records before the comparison.
+    for (value, nots, refusal) in [
+        (1, 13, None),
+        (0, 13, Some((19, 18))),
+        (1, 14, Some((5, 18))),
+        (0, 14, Some((5, 18))),
+    ] {
+        let mut draft = divided(kind, &vec![constant(value)]);
+        draft.start = [vec![plain(0x22); nots], draft.start].concat();
+        let name = name(&format!("divisor {value} below {nots} nots"));
+        list.add(&name, draft.records().concat(), refusal);
+    }
+    let mut deep = bad();
+    deep.nodes[0] = nested_truth(17);
+    list.refused(&name("divisor 0 before level 17"), deep.records(), 19, 5);
+    let mut deep = bad();
+    deep.nodes[0] = std::mem::replace(&mut deep.start, nested_truth(17));
+    list.refused(&name("divisor 0 behind level 17"), deep.records(), 5, 18);
+
+    let one = || vec![constant(1)];
+    let twice = |first: Code, second: Code| {
+        let mut draft = draft(INVARIANCE, 1);
+        draft.transitions = vec![Transition {
+            assignments: vec![(0, first), (0, second)],
+            ..idle()
+        }];
+        draft.records()
+    };
+    let quotient = || join(kind, &[&one(), &vec![constant(0)]]);
+    // The assignment is record 5, its number begins at record 6.
+    list.refused(
+        &name("divisor 0, then assigned again"),
+        twice(quotient(), one()),
+        19,
+        8,
+    );
+    list.refused(
+        &name("assigned again, then divisor 0"),
+        twice(one(), quotient()),
+        6,
+        7,
+    );
+
+    let mut many = bad();
+    many.ranges.push((0, i16::MAX));
+    many.ranges.push((0, i16::MAX));
+    list.refused(
+        &name("divisor 0 and too many states"),
+        many.records(),
+        19,
+        7,
+    );
+    let out = join(0x14, &[&vec![constant(1001)], &vec![constant(1000)]]);
+    let mut interval = bad();
+    interval.start = join(0x23, &[&join(0x28, &[&out, &one()]), &interval.start]);
+    // The conjunction, the comparison of five records, then the other comparison.
+    list.refused(
+        &name("divisor 0 behind an interval"),
+        interval.records(),
+        19,
+        11,
+    );
+}
+
+/// C3.5, C3.7, C10.8: intervals of quotients and remainders, moved to a bound and one past it.
+fn divided_intervals(list: &mut List) {
+    let start = |range: (i16, i16), number: &Code| {
+        let mut draft = draft(INVARIANCE, 1);
+        draft.ranges = vec![range];
+        draft.start = join(0x27, &[number, &vec![constant(0)]]);
+        draft.records()
+    };
+    let variable = vec![record(0x11, 0, 0, 0, 0)];
+    let by = |kind, divisor| join(kind, &[&variable, &vec![constant(divisor)]]);
+    for (range, number, low, high) in [
+        ((-7, 9), by(0x18, 2), -4, 4),
+        ((-8, 7), by(0x18, 2), -4, 3),
+        ((-1, 0), by(0x18, i16::MAX), -1, 0),
+        ((-9, -7), by(0x18, 2), -5, -4),
+        ((7, 9), by(0x18, 2), 3, 4),
+        ((-5, 3), by(0x18, 1), -5, 3),
+        ((-7, 9), by(0x19, 5), 0, 4),
+        ((0, 1), by(0x19, 5), 0, 4),
+        ((-3, -3), by(0x19, 5), 0, 4),
+        ((0, 9), by(0x19, 1), 0, 0),
+        ((0, 0), by(0x19, i16::MAX), 0, 32_766),
+        (
+            (-7, 9),
+            join(0x18, &[&by(0x19, 7), &vec![constant(2)]]),
+            0,
+            3,
+        ),
+        (
+            (-7, 9),
+            join(0x19, &[&by(0x18, 7), &vec![constant(2)]]),
+            0,
+            1,
+        ),
+    ] {
+        for (end, bound) in [(low, -1_000_000), (high, 1_000_000)] {
+            // The end becomes 0 first, so that no other interval goes out.
+            let moved = join(0x13, &[&number, &value(end)]);
+            for past in [0, 1] {
+                let more = value(past * bound / 1_000_000);
+                let code = join(0x12, &[&join(0x12, &[&moved, &more]), &value(bound)]);
+                let kind = number[0][0];
+                let name = format!("kind {kind:x} over {range:?}, {bound} and {past}");
+                match past {
+                    0 => list.readable(&name, start(range, &code)),
+                    _ => list.refused(&name, start(range, &code), 8, 3),
+                }
+            }
+        }
+    }
+    // The left operand is judged, though what is made of it is small.
+    let out = join(0x14, &[&vec![constant(1001)], &vec![constant(1000)]]);
+    for kind in [0x18, 0x19] {
+        let number = join(kind, &[&out, &vec![constant(2)]]);
+        let name = format!("left operand out of bounds, kind {kind:x}");
+        list.refused(&name, start((0, 1), &number), 8, 4);
     }
 }

@@ -2,8 +2,10 @@
 //! file and from how it is read. And what makes its verdict special: the tests, the breaking state.
 
 use crate::compare::{Case, Facts};
-use crate::generate::{combine, Interval, Record, KINDS, RECORDS};
-use independent::{File, Refusal, Tested, Verdict};
+use crate::generate::{
+    combine, constant, divisors, levels, operands, owners, Interval, Record, KINDS, RECORDS,
+};
+use independent::{number, Claim, File, Number, Pair, Refusal, Tested, Truth, Verdict};
 
 const BOUND: i64 = 1_000_000;
 /// A file with a short buffer is checked once more, with room, if it has at most so many tests.
@@ -11,7 +13,7 @@ const LITTLE: usize = 1_000;
 
 /// The situations that must come up. A number in front is the refusal; files with a limit reached
 /// are readable.
-pub const SITUATIONS: [&str; 47] = [
+pub const SITUATIONS: [&str; 96] = [
     "12 variables",
     "5: variable 13",
     "4: field of variable 13",
@@ -59,6 +61,55 @@ pub const SITUATIONS: [&str; 47] = [
     "7: and an interval out of bounds",
     "8: and an edge that breaks a rule",
     "9: and a node without a double edge",
+    "a quotient in the start",
+    "a quotient in a guard",
+    "a quotient in an assigned value",
+    "a quotient in the property",
+    "a quotient in a node",
+    "a quotient under an indicator",
+    "a remainder in the start",
+    "a remainder in a guard",
+    "a remainder in an assigned value",
+    "a remainder in the property",
+    "a remainder in a node",
+    "a remainder under an indicator",
+    "a quotient of a quotient",
+    "a quotient of a remainder",
+    "a remainder of a quotient",
+    "a remainder of a remainder",
+    "a quotient of a number below 0 that is rounded",
+    "a remainder of a number below 0 that isn't 0",
+    "a quotient by 1",
+    "a quotient by 32,767",
+    "a remainder by 1",
+    "a remainder by 32,767",
+    "19: of a quotient",
+    "19: of a remainder",
+    "19: constant 0",
+    "19: constant below 0",
+    "19: variable",
+    "19: sum, difference or product",
+    "19: quotient or remainder",
+    "19: indicator",
+    "19: and an operand of the divisor that doesn't fit",
+    "19: and the file's end for an operand of the divisor",
+    "19: and a later record of no kind",
+    "19: and a later field",
+    "19: and a later level 17",
+    "19: and a later repetition",
+    "19: and too many states",
+    "19: and an interval out of bounds",
+    "3: a truth for a divisor",
+    "3: no kind for a divisor",
+    "3: the file's end for a divisor",
+    "4: field of a divisor",
+    "4: field of what is no divisor",
+    "4: an unknown variable for a divisor",
+    "5: level 17, behind it what is no divisor",
+    "3: and a later number that is no divisor",
+    "4: and a later number that is no divisor",
+    "5: and a later number that is no divisor",
+    "6: and a later number that is no divisor",
 ];
 
 /// The verdicts without a condition that must come up. A number in front is the refusal.
@@ -70,13 +121,15 @@ pub const UNNAMED: [&str; 4] = [
 ];
 
 /// The breaking states that must come up, for each kind of condition.
-pub const BREAKING: [&str; 6] = [
+pub const BREAKING: [&str; 8] = [
     "at state 0",
     "at a later state",
     "at the last of several states",
     "at a higher state too",
     "at a negative value, not at state 0",
     "at a state of another number if the first variable were fastest",
+    "where a quotient of a number below 0 is rounded",
+    "where a remainder of a number below 0 isn't 0",
 ];
 
 /// The situations of a verdict that names no condition.
@@ -125,6 +178,7 @@ pub fn breaking(
         condition == verdict.at as usize && at > state && *tested == Tested::Fails
     });
     let negative = values().any(|(_, value)| value < 0);
+    let [quotient, remainder] = rounded(file, &verdict.values);
     told(&[
         ("at state 0", state == 0),
         ("at a later state", state > 0),
@@ -138,7 +192,85 @@ pub fn breaking(
             "at a state of another number if the first variable were fastest",
             first_fastest != state,
         ),
+        ("where a quotient of a number below 0 is rounded", quotient),
+        ("where a remainder of a number below 0 isn't 0", remainder),
     ])
+}
+
+/// Whether in the state a quotient, or a remainder, is that of a number below 0 which isn't a
+/// multiple of the divisor.
+fn rounded(file: &File, state: &[i16; 12]) -> [bool; 2] {
+    let mut divisions = Divisions::default();
+    divisions.of_file(file);
+    let rounded = |pair: &&Pair| {
+        let (left, divisor) = (number(&pair.left, state), number(&pair.right, state));
+        left < 0 && left % divisor != 0
+    };
+    [divisions.quotients, divisions.remainders].map(|pairs| pairs.iter().any(rounded))
+}
+
+/// The quotients and remainders of a file.
+#[derive(Default)]
+struct Divisions<'a> {
+    quotients: Vec<&'a Pair>,
+    remainders: Vec<&'a Pair>,
+}
+
+impl<'a> Divisions<'a> {
+    fn of_file(&mut self, file: &'a File) {
+        self.of_truth(&file.start);
+        for transition in &file.transitions {
+            self.of_truth(&transition.guard);
+            for assignment in &transition.assignments {
+                self.of_number(&assignment.value);
+            }
+        }
+        match &file.claim {
+            Claim::Invariance { q } => self.of_truth(q),
+            Claim::WaitFor { p, q } => {
+                self.of_truth(p);
+                q.iter().for_each(|q| self.of_truth(q));
+            }
+            Claim::Chain { p, q } => {
+                self.of_truth(p);
+                self.of_truth(q);
+            }
+        }
+        file.nodes.iter().for_each(|node| self.of_truth(node));
+    }
+
+    fn of_truth(&mut self, truth: &'a Truth) {
+        match truth {
+            Truth::True | Truth::False => (),
+            Truth::Not(operand) => self.of_truth(operand),
+            Truth::And(pair) | Truth::Or(pair) | Truth::Implies(pair) | Truth::Iff(pair) => {
+                self.of_truth(&pair.0);
+                self.of_truth(&pair.1);
+            }
+            Truth::Equal(pair) | Truth::Less(pair) | Truth::AtMost(pair) => {
+                self.of_number(&pair.0);
+                self.of_number(&pair.1);
+            }
+        }
+    }
+
+    fn of_number(&mut self, number: &'a Number) {
+        let pair = match number {
+            Number::Constant(_) | Number::Variable(_) => return,
+            Number::Indicator(truth) => return self.of_truth(truth),
+            Number::Sum(pair) | Number::Difference(pair) | Number::Product(pair) => pair,
+            Number::Quotient(pair) => {
+                self.quotients.push(pair);
+                pair
+            }
+            Number::Remainder(pair) => {
+                self.remainders.push(pair);
+                pair
+            }
+        };
+        self.of_number(&pair.left);
+        self.of_number(&pair.right);
+    }
 }
 
 /// The file's situations.
@@ -148,7 +280,11 @@ pub fn of(file: &[u8], facts: &Facts) -> Vec<&'static str> {
         .map(|bytes| bytes.try_into().expect("8 bytes"))
         .collect();
     match &facts.reading {
-        Ok(read) => reached(&records, read, facts.states),
+        Ok(read) => [
+            reached(&records, read, facts.states),
+            divided(&records, read),
+        ]
+        .concat(),
         Err(refusal) => refused(file.len(), &records, refusal),
     }
 }
@@ -172,6 +308,59 @@ fn reached(records: &[Record], read: &File, states: usize) -> Vec<&'static str> 
         ("1,048,576 states", states == 1_048_576),
         ("an interval up to 1,000,000", ends(|(_, high)| high, BOUND)),
         ("an interval from -1,000,000", ends(|(low, _)| low, -BOUND)),
+    ])
+}
+
+/// Where a readable file has quotients and remainders, of what and by what.
+fn divided(records: &[Record], read: &File) -> Vec<&'static str> {
+    let owners = owners(records);
+    let kind = |at: usize| records[at][0];
+    // The last record of kinds 01 to 07 up to each.
+    let mut sections = Vec::new();
+    for record in records {
+        let last = sections.last().copied().unwrap_or(0);
+        sections.push(if record[0] < 0x10 { record[0] } else { last });
+    }
+    let all = |of| (0..records.len()).filter(move |&at| kind(at) == of);
+    let within = |of, section| all(of).any(|at| sections[at] == section);
+    let under = |of| {
+        all(of).any(|at| {
+            let mut above = std::iter::successors(owners[at], |&(owner, _)| owners[owner]);
+            above.any(|(owner, _)| kind(owner) == 0x15)
+        })
+    };
+    let over = |of, left| all(of).any(|at| kind(at + 1) == left);
+    let divisors = divisors(records);
+    let by = |of, value| {
+        let owner = |at: usize| owners[at].map(|(owner, _)| kind(owner));
+        let found = |&at: &usize| owner(at) == Some(of) && field_b(&records[at]) == value;
+        divisors.iter().any(found)
+    };
+    let first = independent::states(&read.variables).next();
+    let [quotient, remainder] = rounded(read, &first.unwrap_or_default());
+    told(&[
+        ("a quotient in the start", within(0x18, 0x02)),
+        ("a quotient in a guard", within(0x18, 0x03)),
+        ("a quotient in an assigned value", within(0x18, 0x04)),
+        ("a quotient in the property", within(0x18, 0x05)),
+        ("a quotient in a node", within(0x18, 0x06)),
+        ("a quotient under an indicator", under(0x18)),
+        ("a remainder in the start", within(0x19, 0x02)),
+        ("a remainder in a guard", within(0x19, 0x03)),
+        ("a remainder in an assigned value", within(0x19, 0x04)),
+        ("a remainder in the property", within(0x19, 0x05)),
+        ("a remainder in a node", within(0x19, 0x06)),
+        ("a remainder under an indicator", under(0x19)),
+        ("a quotient of a quotient", over(0x18, 0x18)),
+        ("a quotient of a remainder", over(0x18, 0x19)),
+        ("a remainder of a quotient", over(0x19, 0x18)),
+        ("a remainder of a remainder", over(0x19, 0x19)),
+        ("a quotient of a number below 0 that is rounded", quotient),
+        ("a remainder of a number below 0 that isn't 0", remainder),
+        ("a quotient by 1", by(0x18, 1)),
+        ("a quotient by 32,767", by(0x18, i16::MAX)),
+        ("a remainder by 1", by(0x19, 1)),
+        ("a remainder by 32,767", by(0x19, i16::MAX)),
     ])
 }
 
@@ -210,6 +399,24 @@ fn refused(length: usize, records: &[Record], refusal: &Refusal) -> Vec<&'static
             let no_kind = |one: &Record| !KINDS.contains(&one[0]);
             let unfit_later = records.iter().skip(place + 1).any(no_kind);
             let many = wait_for && before(0x06) == b as usize;
+            let divisor = divisor_due(records, place);
+            // What stands there is no divisor, whatever its other fields.
+            let undue = divisor && at.as_ref().map_or(false, no_divisor);
+            let others_zero = at.map_or(false, |at| at[2..] == [0; 6]);
+            let undue_later = || {
+                let mut later = divisors(records).into_iter().filter(|&one| one > place);
+                later.any(|one| records[one][0] < 0x20 && no_divisor(&records[one]))
+            };
+            let left_of_undue = || {
+                let owners = owners(records);
+                let owner = owners.get(place).copied().flatten();
+                let right = owner.and_then(|(owner, _)| {
+                    divisors(records)
+                        .into_iter()
+                        .find(|&one| owners[one] == Some((owner, 1)))
+                });
+                right.map_or(false, |one| one > place && no_divisor(&records[one]))
+            };
             told(&[
                 ("5: variable 13", number(5) && kind == 0x01),
                 (
@@ -277,6 +484,44 @@ fn refused(length: usize, records: &[Record], refusal: &Refusal) -> Vec<&'static
                 ("4: and a later record of no kind", number(4) && unfit_later),
                 ("5: and a later record of no kind", number(5) && unfit_later),
                 ("6: and a later record of no kind", number(6) && unfit_later),
+                (
+                    "3: a truth for a divisor",
+                    number(3) && divisor && (0x20..0x2a).contains(&kind),
+                ),
+                (
+                    "3: no kind for a divisor",
+                    number(3) && divisor && at.as_ref().map_or(false, no_kind),
+                ),
+                (
+                    "3: the file's end for a divisor",
+                    number(3) && divisor && at.is_none(),
+                ),
+                ("4: field of a divisor", number(4) && divisor && !undue),
+                ("4: field of what is no divisor", number(4) && undue),
+                (
+                    "4: an unknown variable for a divisor",
+                    number(4) && divisor && kind == 0x11 && others_zero,
+                ),
+                (
+                    "5: level 17, behind it what is no divisor",
+                    number(5) && left_of_undue(),
+                ),
+                (
+                    "3: and a later number that is no divisor",
+                    number(3) && undue_later(),
+                ),
+                (
+                    "4: and a later number that is no divisor",
+                    number(4) && undue_later(),
+                ),
+                (
+                    "5: and a later number that is no divisor",
+                    number(5) && undue_later(),
+                ),
+                (
+                    "6: and a later number that is no divisor",
+                    number(6) && undue_later(),
+                ),
             ])
         }
         7 => {
@@ -324,8 +569,89 @@ fn refused(length: usize, records: &[Record], refusal: &Refusal) -> Vec<&'static
                 property(records) == Some(3) && lacks,
             )])
         }
+        19 => refused_divisor(records, place),
         _ => Vec::new(),
     }
+}
+
+/// A divisor that is no constant above 0, and what else the file would be refused with.
+fn refused_divisor(records: &[Record], place: usize) -> Vec<&'static str> {
+    let at = &records[place];
+    let kind = at[0];
+    let owner = owners(records)[place].map(|(owner, _)| records[owner][0]);
+    let later = &records[place + 1..];
+    // What its first operand must be.
+    let fits = |one: &Record| match kind {
+        0x15 => (0x20..0x2a).contains(&one[0]),
+        _ => KINDS.contains(&one[0]) && (0x10..0x20).contains(&one[0]),
+    };
+    let unfit = operands(kind) > 0 && later.first().map_or(false, |one| !fits(one));
+    let states: i64 = ranges(records)
+        .into_iter()
+        .map(|(low, high)| high - low + 1)
+        .fold(1, i64::saturating_mul);
+    let out = |(low, high): &Interval| *low < -BOUND || *high > BOUND;
+    told(&[
+        ("19: of a quotient", owner == Some(0x18)),
+        ("19: of a remainder", owner == Some(0x19)),
+        ("19: constant 0", kind == 0x10 && field_b(at) == 0),
+        ("19: constant below 0", kind == 0x10 && field_b(at) < 0),
+        ("19: variable", kind == 0x11),
+        (
+            "19: sum, difference or product",
+            (0x12..=0x14).contains(&kind),
+        ),
+        ("19: quotient or remainder", matches!(kind, 0x18 | 0x19)),
+        ("19: indicator", kind == 0x15),
+        ("19: and an operand of the divisor that doesn't fit", unfit),
+        (
+            "19: and the file's end for an operand of the divisor",
+            operands(kind) > 0 && later.is_empty(),
+        ),
+        (
+            "19: and a later record of no kind",
+            later.iter().any(|one| !KINDS.contains(&one[0])),
+        ),
+        ("19: and a later field", later.iter().any(|one| one[7] != 0)),
+        (
+            "19: and a later level 17",
+            levels(records)[place + 1..].contains(&17),
+        ),
+        ("19: and a later repetition", repeats_behind(records, place)),
+        ("19: and too many states", states > 1_048_576),
+        (
+            "19: and an interval out of bounds",
+            intervals(records).iter().flatten().any(out),
+        ),
+    ])
+}
+
+/// Whether a divisor must stand there.
+fn divisor_due(records: &[Record], place: usize) -> bool {
+    let before = &records[..place.min(records.len())];
+    divisors(&[before, &[constant(1)]].concat()).contains(&place)
+}
+
+fn no_divisor(record: &Record) -> bool {
+    record[0] != 0x10 || field_b(record) <= 0
+}
+
+/// Whether an assignment or an edge behind that place repeats another.
+fn repeats_behind(records: &[Record], place: usize) -> bool {
+    (place + 1..records.len()).any(|at| {
+        let one = &records[at];
+        let before = records[..at].iter().rev();
+        match one[0] {
+            0x04 => {
+                let mut transition = before.take_while(|other| other[0] != 0x03);
+                transition.any(|other| other[..2] == one[..2])
+            }
+            0x07 => before
+                .take_while(|other| other[0] == 0x07)
+                .any(|other| other[..6] == one[..6]),
+            _ => false,
+        }
+    })
 }
 
 fn told(list: &[(&'static str, bool)]) -> Vec<&'static str> {
@@ -351,42 +677,6 @@ fn ranges(records: &[Record]) -> Vec<Interval> {
         .collect()
 }
 
-fn operands(kind: u8) -> usize {
-    match kind {
-        0x12..=0x14 | 0x23..=0x29 => 2,
-        0x15 | 0x22 => 1,
-        _ => 0,
-    }
-}
-
-/// The level of each record in its expression, 0 for those outside of expressions.
-fn levels(records: &[Record]) -> Vec<usize> {
-    // How many operands are to come, of the outermost record first.
-    let mut open: Vec<usize> = Vec::new();
-    let mut levels = Vec::new();
-    for record in records {
-        if record[0] < 0x10 {
-            open.clear();
-            levels.push(0);
-            continue;
-        }
-        levels.push(open.len() + 1);
-        match operands(record[0]) {
-            0 => {
-                while let Some(left) = open.last_mut() {
-                    *left -= 1;
-                    if *left > 0 {
-                        break;
-                    }
-                    open.pop();
-                }
-            }
-            count => open.push(count),
-        }
-    }
-    levels
-}
-
 /// The interval of each record that is a number; from the last record to the first, so that
 /// operands come before what they belong to.
 fn intervals(records: &[Record]) -> Vec<Option<Interval>> {
@@ -404,7 +694,8 @@ fn intervals(records: &[Record]) -> Vec<Option<Interval>> {
         *found = match kind {
             0x10 => Some((field_b(record).into(), field_b(record).into())),
             0x11 => ranges.get(usize::from(record[1])).copied(),
-            0x12..=0x14 => match (operand(), operand()) {
+            0x12..=0x14 | 0x18 | 0x19 => match (operand(), operand()) {
+                (_, Some((..=0, _))) if kind > 0x14 => None,
                 (Some(left), Some(right)) => {
                     let (low, high) = combine(kind, left, right);
                     // Twice the bound is as far out as more, and nothing overflows.

@@ -27,21 +27,21 @@ const EDGES: [&str; 5] = ["0", "the last", "one past", "the greatest usize", "2^
 
 pub struct Tally {
     /// Checks by number and property; 0 for the property of an unreadable file, and for number 1.
-    checks: [[u64; 4]; 19],
+    checks: [[u64; 4]; 20],
     /// The places of refusals by number.
     places: Vec<HashSet<u32>>,
     /// Checks by the buffer's length.
     rooms: [u64; 65],
     /// Single tests that are refused, by number.
-    refused: [u64; 19],
+    refused: [u64; 20],
     /// Single tests that fail and that hold, by number and property of the condition.
-    tested: [[[u64; 4]; 19]; 2],
+    tested: [[[u64; 4]; 20]; 2],
     /// Conditions and states of single tests of readable files.
     edges: [[u64; 5]; 2],
     situations: [u64; SITUATIONS.len()],
     unnamed: [u64; UNNAMED.len()],
     /// By the number of the broken condition.
-    breaking: [[u64; BREAKING.len()]; 19],
+    breaking: [[u64; BREAKING.len()]; 20],
     /// Readable files that have too many tests for the whole check.
     singles_only: u64,
 }
@@ -49,15 +49,15 @@ pub struct Tally {
 impl Default for Tally {
     fn default() -> Tally {
         Tally {
-            checks: [[0; 4]; 19],
-            places: vec![HashSet::new(); 19],
+            checks: [[0; 4]; 20],
+            places: vec![HashSet::new(); 20],
             rooms: [0; 65],
-            refused: [0; 19],
-            tested: [[[0; 4]; 19]; 2],
+            refused: [0; 20],
+            tested: [[[0; 4]; 20]; 2],
             edges: [[0; 5]; 2],
             situations: [0; SITUATIONS.len()],
             unnamed: [0; UNNAMED.len()],
-            breaking: [[0; BREAKING.len()]; 19],
+            breaking: [[0; BREAKING.len()]; 20],
             singles_only: 0,
         }
     }
@@ -112,11 +112,11 @@ impl Tally {
             let name = format!("{name}: {count}, at least {least}");
             tests.push((name, count >= least));
         };
-        for number in (0..=10).chain(13..=18) {
+        for number in (0..=10).chain(13..=19) {
             let count = self.checks[number].iter().sum();
             least(format!("checks of number {number}"), count, often);
         }
-        for number in 2..=12 {
+        for number in (2..=12).chain([19]) {
             let name = format!("single tests of number {number}");
             least(name, self.refused[number], often);
         }

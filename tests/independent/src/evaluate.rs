@@ -5,7 +5,8 @@
 use crate::file::{Number, Transition, Truth, Variable};
 use crate::states::State;
 
-/// C2.3, C2.4, C2.5, C2.6: what a number is worth.
+/// C2.3, C2.4, C2.5, C2.6, C2.14: what a number is worth. By a divisor above 0, Euclidean division
+/// rounds down and leaves a remainder from 0 up.
 pub fn number(expression: &Number, state: &State) -> i32 {
     match expression {
         Number::Constant(value) => *value,
@@ -14,6 +15,8 @@ pub fn number(expression: &Number, state: &State) -> i32 {
         Number::Difference(pair) => number(&pair.left, state) - number(&pair.right, state),
         Number::Product(pair) => number(&pair.left, state) * number(&pair.right, state),
         Number::Indicator(operand) => i32::from(truth(operand, state)),
+        Number::Quotient(pair) => number(&pair.left, state).div_euclid(number(&pair.right, state)),
+        Number::Remainder(pair) => number(&pair.left, state).rem_euclid(number(&pair.right, state)),
     }
 }
 

@@ -14,7 +14,7 @@ impl Variable {
     }
 }
 
-/// C2.3, C2.4, C2.5, C2.6: a number expression.
+/// C2.3, C2.4, C2.5, C2.6, C2.14: a number expression.
 #[derive(Clone, Debug, PartialEq, Eq)]
 pub enum Number {
     Constant(i32),
@@ -23,9 +23,12 @@ pub enum Number {
     Difference(Box<Pair>),
     Product(Box<Pair>),
     Indicator(Box<Truth>),
+    Quotient(Box<Pair>),
+    Remainder(Box<Pair>),
 }
 
-/// The operands of a sum, difference or product, and the number of its record.
+/// The operands of a sum, difference, product, quotient or remainder, and the number of its record.
+/// C2.15: the right one of a quotient or remainder is a constant above 0.
 #[derive(Clone, Debug, PartialEq, Eq)]
 pub struct Pair {
     pub place: usize,

@@ -74,7 +74,29 @@ fn interval(number: &Number, ranges: &[Variable]) -> Result<Interval, Refusal> {
             check_truth(truth, ranges)?;
             Ok(Interval { low: 0, high: 1 })
         }
+        Number::Quotient(pair) => {
+            let (left, divisor) = divided(pair, ranges)?;
+            Ok(Interval {
+                low: left.low.div_euclid(divisor),
+                high: left.high.div_euclid(divisor),
+            })
+        }
+        Number::Remainder(pair) => {
+            let (_, divisor) = divided(pair, ranges)?;
+            Ok(Interval {
+                low: 0,
+                high: divisor - 1,
+            })
+        }
     }
+}
+
+/// C3.7: the left operand's interval and the divisor, from which those of quotients and remainders
+/// come. A quotient's keeps the bounds where the left operand's does, a remainder's always.
+fn divided(pair: &Pair, ranges: &[Variable]) -> Result<(Interval, i64), Refusal> {
+    let dividend = interval(&pair.left, ranges)?;
+    let divisor = interval(&pair.right, ranges)?;
+    Ok((dividend, divisor.low))
 }
 
 fn exactly(value: i32) -> Interval {

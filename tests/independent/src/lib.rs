@@ -17,7 +17,7 @@ mod report;
 mod states;
 
 pub use conditions::Condition;
-pub use evaluate::{successor, truth};
+pub use evaluate::{number, successor, truth};
 pub use file::{Assignment, Claim, Edge, File, Number, Pair, Transition, Truth, Variable};
 pub use refusal::Refusal;
 pub use report::{Verdict, REPORT_LENGTH};
@@ -33,8 +33,8 @@ pub enum Tested {
     Refused { number: u8, place: u32 },
 }
 
-/// C11.1, C11.6: reads a file. Refusals 2 to 10, each tried for the whole file before the next, but
-/// 3 to 6 record by record.
+/// C11.1, C11.6: reads a file. Refusals 2 to 10 and 19, each tried for the whole file before the
+/// next, but 3 to 6 and 19 record by record.
 pub fn read(file: &[u8]) -> Result<File, Refusal> {
     records::check_length(file)?;
     let file = parse::parse(file)?;
@@ -90,7 +90,8 @@ pub fn single(file: &[u8], condition: usize, state: usize) -> Tested {
     }
 }
 
-/// C13.2, C13.3: refusals 2 to 10, then C10.11, then C10.12; else whether the condition holds.
+/// C13.2, C13.3: refusals 2 to 10 and 19, then C10.11, then C10.12; else whether the condition
+/// holds.
 fn test(file: &[u8], condition: usize, state: usize) -> Result<bool, Refusal> {
     let file = read(file)?;
     let conditions = file.conditions();

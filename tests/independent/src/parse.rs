@@ -1,8 +1,8 @@
-//! Reading the records into a [`File`]. C11.2: refusals 3 to 6, in order, record by record.
+//! Reading the records into a [`File`]. C11.2: refusals 3 to 6 and 19, in order, record by record.
 
 use crate::file::{Assignment, Claim, Edge, File, Number, Pair, Transition, Truth, Variable};
 use crate::records::*;
-use crate::refusal::{Refusal, FIELD, KIND, LIMIT, REPEAT};
+use crate::refusal::{Refusal, DIVISOR, FIELD, KIND, LIMIT, REPEAT};
 
 const MOST_VARIABLES: usize = 12;
 const MOST_TRANSITIONS: usize = 32;
@@ -76,6 +76,11 @@ impl<'a> Parser<'a> {
     /// C10.6: neither assigned again, nor an edge repeated.
     fn fresh(&self, met: bool) -> Result<(), Refusal> {
         self.demand(met, REPEAT)
+    }
+
+    /// C10.19: a constant above 0. C11.2: tried behind 3, 4 and 5.
+    fn divides(&self, met: bool) -> Result<(), Refusal> {
+        self.demand(met, DIVISOR)
     }
 
     // The records.
@@ -287,11 +292,10 @@ impl<'a> Parser<'a> {
         Ok(Box::new((left, right)))
     }
 
-    /// C2.2, C2.11, C1.15.
-    fn number(&mut self, level: usize) -> Result<Number, Refusal> {
-        let place = self.at;
+    /// C2.2, C2.11, C1.15: the record to be read next, which must begin a number.
+    fn number_record(&self, level: usize) -> Result<Record, Refusal> {
         let record = self.record()?;
-        self.fits((CONSTANT..=INDICATOR).contains(&record.kind))?;
+        self.fits(begins_number(record.kind))?;
         let variable = usize::from(record.a);
         self.fields(match record.kind {
             CONSTANT => record.zero_except(&[Field::B]),
@@ -299,13 +303,21 @@ impl<'a> Parser<'a> {
             _ => record.zero_except(&[]),
         })?;
         self.within(level <= MOST_LEVELS)?;
+        Ok(record)
+    }
+
+    fn number(&mut self, level: usize) -> Result<Number, Refusal> {
+        let place = self.at;
+        let record = self.number_record(level)?;
         self.advance();
         Ok(match record.kind {
             CONSTANT => Number::Constant(i32::from(record.b)),
-            VALUE => Number::Variable(variable),
+            VALUE => Number::Variable(usize::from(record.a)),
             SUM => Number::Sum(self.pair(place, level + 1)?),
             DIFFERENCE => Number::Difference(self.pair(place, level + 1)?),
             PRODUCT => Number::Product(self.pair(place, level + 1)?),
+            QUOTIENT => Number::Quotient(self.division(place, level + 1)?),
+            REMAINDER => Number::Remainder(self.division(place, level + 1)?),
             _ => Number::Indicator(Box::new(self.truth(level + 1)?)),
         })
     }
@@ -315,6 +327,24 @@ impl<'a> Parser<'a> {
         let right = self.number(level)?;
         Ok(Box::new(Pair { place, left, right }))
     }
+
+    fn division(&mut self, place: usize, level: usize) -> Result<Box<Pair>, Refusal> {
+        let left = self.number(level)?;
+        let right = self.divisor(level)?;
+        Ok(Box::new(Pair { place, left, right }))
+    }
+
+    /// C2.15: a constant above 0. C11.2: any other number is refused before its operands are read.
+    fn divisor(&mut self, level: usize) -> Result<Number, Refusal> {
+        let record = self.number_record(level)?;
+        self.divides(record.kind == CONSTANT && record.b > 0)?;
+        self.number(level)
+    }
+}
+
+/// C2.3, C2.4, C2.5, C2.6, C2.14: the kinds of the numbers.
+fn begins_number(kind: u8) -> bool {
+    matches!(kind, CONSTANT..=INDICATOR | QUOTIENT | REMAINDER)
 }
 
 /// C1.11, C11.5: outside of 1..32 the field is refused, not the limit.

@@ -19,6 +19,8 @@ pub const SUM: u8 = 0x12;
 pub const DIFFERENCE: u8 = 0x13;
 pub const PRODUCT: u8 = 0x14;
 pub const INDICATOR: u8 = 0x15;
+pub const QUOTIENT: u8 = 0x18;
+pub const REMAINDER: u8 = 0x19;
 
 pub const TRUE: u8 = 0x20;
 pub const FALSE: u8 = 0x21;

@@ -12,6 +12,7 @@ pub const EDGE_RULE: u8 = 9;
 pub const NO_DOUBLE: u8 = 10;
 pub const CONDITION_NUMBER: u8 = 11;
 pub const STATE_NUMBER: u8 = 12;
+pub const DIVISOR: u8 = 19;
 
 /// A refusal without a condition: its number and its place.
 #[derive(Clone, Copy, Debug, PartialEq, Eq)]

@@ -1,15 +1,16 @@
 -- Laws of extents: a number in bounds lies in its extent.
 --     cut-low, cut-high                                      a number that is cut to a range is no worse an end of what lies in the range
 --     cut-in, cut-fits                                       it lies in the range, and is as small as the range's ends
---     extent-bounded, combine-bounded, indicator-bounded     an extent lies in bounds
+--     extent-bounded, combine-bounded, divide-bounded, indicator-bounded     an extent lies in bounds
 --     extent-in                                              a number between the ends given lies in it
---     combine-in-extent, indicator-in-extent                 sums, differences and products, and indicators, lie in theirs
+--     combine-in-extent, divide-in-extent, indicator-in-extent               arithmetic, quotients and remainders, and indicators lie in theirs
 --     at-most-says, compare-says                             what the extents' ends say of two numbers
 -- Assumes nothing.
 use mathlib.Core.Path.{_≡_, refl, sym}
-use mathlib.Core.Bool.{Bool, true, false, not, cond, _&&_}
+use mathlib.Core.Bool.{Bool, true, false, true≢false, not, cond, _&&_}
 use Prim.Native.Nat.{ℕ}
-use lib.IntN.{ℤ}
+use lib.IntN.{ℤ, pos, _-ℤ_}
+use lib.Dec.{eqb}
 use lib.Signed.{leZ, ltZ, _≤ℤ_, ≤ℤ-refl}
 use mir.Syntax.{Width}
 use mir.Val.{SFits}
@@ -19,8 +20,8 @@ use Rattle.integers.specs.Inside.{In, Bounded}
 use Rattle.truths.proofs.Laws.Truth.{by-test}
 use Rattle.integers.proofs.Laws.Parts.{ints, within-fits}
 use Rattle.integers.proofs.Laws.Equality.{eqZ-true, eqZ-refl}
-use Rattle.intervals.specs.Interval.{interval, combine as combineOf}
-use Rattle.intervals.proofs.Laws.Combine.{combine-in}
+use Rattle.intervals.specs.Interval.{interval, combine as combineOf, divide as divideOf}
+use Rattle.intervals.proofs.Laws.Combine.{combine-in, divide-by, quotient-ends, remainder-ends, remainder-below}
 use Rattle.expressions.specs.Expression.{indicatorOf, compareOf}
 use Rattle.expressions.proofs.Laws.Connect.{indicator-true, indicator-false, compare-by}
 use Rattle.expressions.proofs.Laws.Sound.{indicator-in, constant-in}
@@ -28,7 +29,7 @@ use Rattle.domains.specs.declared.seen.Seen.{Seen}
 use Rattle.domains.specs.declared.seen.Seen.the-variants.{Yes, No, Unsure}
 use Rattle.domains.specs.declared.extents.Extent.{Extent}
 use Rattle.domains.specs.Seen.{Says}
-use Rattle.domains.specs.Extent.{cutOf, extentOf, widerOf, combineIn, indicatorIn, allAtMost, allAbove, atMostIn, compareIn}
+use Rattle.domains.specs.Extent.{cutOf, extentOf, widerOf, combineIn, risesOf, divideIn, indicatorIn, allAtMost, allAbove, atMostIn, compareIn}
 use Rattle.domains.proofs.Laws.Seen.{opposite-says, both-says}
 
 -- ---- numbers cut to a range
@@ -65,6 +66,14 @@ pub combine-bounded : (kind : ℕ) (x y : Extent) → Bounded (combineIn kind x 
 unfolding combineIn
 combine-bounded kind x y = extent-bounded _ _ _
 
+pub divide-bounded : (kind : ℕ) (x : Extent) (d : ℤ) → Bounded (divideIn kind x d .span)
+unfolding divideIn
+divide-bounded kind x d =
+    let i = x .span in
+    let ends = extentOf (divideOf kind (i .low) d) (divideOf kind (i .high) d) (x .widest) in
+    let all = extentOf (pos 0) (d -ℤ pos 1) (x .widest) in
+    by-test (risesOf kind (i .low) (i .high) d) (λ t. Bounded (cond t ends all .span)) (λ e. extent-bounded _ _ _) (λ e. extent-bounded _ _ _)
+
 pub indicator-bounded : (p : Seen) → Bounded (indicatorIn p .span)
 unfolding indicatorIn
 indicator-bounded Yes = extent-bounded _ _ _
@@ -76,6 +85,33 @@ pub combine-in-extent : (kind : ℕ) (x y : Extent) {a b : ℤ} → In (combineO
     → In (combineOf kind a b) (combineIn kind x y .span)
 unfolding combineIn
 combine-in-extent kind x y s h k = let c = combine-in kind h k in extent-in _ _ _ s (record { above = c .above; below = c .below })
+
+module _ (kind : ℕ) (x : Extent) {a : ℤ} (d : ℤ) (above : pos 1 ≤ℤ d) (h : In a (x .span)) where
+  abbrev low : ℤ
+  low = x .span .low
+
+  abbrev high : ℤ
+  high = x .span .high
+
+  -- where it rises, and everywhere
+  ends-in : risesOf kind low high d ≡ true → In (divideOf kind a d) (interval (divideOf kind low d) (divideOf kind high d))
+  unfolding risesOf
+  ends-in r =
+      divide-by (λ f. In (f a d) (interval (f low d) (f high d))) kind (λ e. quotient-ends h d above)
+      (λ e. remainder-ends h d above (eqZ-true _ _ (rw e at r)))
+
+  below-in : risesOf kind low high d ≡ false → In (divideOf kind a d) (interval (pos 0) (d -ℤ pos 1))
+  unfolding risesOf
+  below-in r =
+      divide-by (λ f. In (f a d) (interval (pos 0) (d -ℤ pos 1))) kind (λ e. absurd (true≢false (rw e at r))) (λ e. remainder-below a d above)
+
+  pub divide-in-extent : In (divideOf kind a d) bounds → In (divideOf kind a d) (divideIn kind x d .span)
+  unfolding divideIn
+  divide-in-extent s =
+      let ends = extentOf (divideOf kind low d) (divideOf kind high d) (x .widest) in
+      let all = extentOf (pos 0) (d -ℤ pos 1) (x .widest) in
+      by-test (risesOf kind low high d) (λ t. In (divideOf kind a d) (cond t ends all .span)) (λ e. extent-in _ _ _ s (ends-in e))
+      (λ e. extent-in _ _ _ s (below-in e))
 
 pub indicator-in-extent : (p : Seen) (a : Bool) → Says p a → In (indicatorOf a) bounds → In (indicatorOf a) (indicatorIn p .span)
 unfolding Says indicatorIn

@@ -4,18 +4,19 @@ use mathlib.Core.Logic.{⊎-elim}
 use Prim.Native.Nat.{ℕ, _<_}
 use native.Mathlib.Omega.{arith}
 use mir.Syntax.{w64}
+use mir.Val.{toZ, ofZ}
 use Rattle.integers.proofs.Laws.Parts.{back}
-use Rattle.records.specs.Form.Form.{Arithmetic, Indicator, Connective, Comparison}
-use Rattle.records.specs.Record.{fieldA}
-use Rattle.records.specs.Kind.{number as numberSort, truth as truthSort}
+use Rattle.records.specs.Form.Form.{Arithmetic, Indicator, Division, Connective, Comparison}
+use Rattle.records.specs.Record.{fieldA, valueB}
+use Rattle.records.specs.Kind.{number as numberSort, truth as truthSort, divisor as divisorSort}
 use Rattle.records.specs.Form.{formAt}
 use Rattle.records.proofs.Laws.Kind.{constant-form, variable-form, arithmetic-form, indicator-form, literal-form, negation-form, connective-form}
-use Rattle.records.proofs.Laws.Kind.{comparison-form}
-use Rattle.expressions.proofs.Laws.Expression.{fits-record}
+use Rattle.records.proofs.Laws.Kind.{comparison-form, division-form}
+use Rattle.expressions.proofs.Laws.Expression.{fits-record, divisor-above}
 use Rattle.expressions.proofs.Laws.Operand.{number-kinds, truth-kinds, Two, there, level, one, two}
 use Rattle.domains.proofs.Laws.Seen.{literal-true, literal-false}
 use Rattle.enclosures.proofs.Laws.Enclosure.{number-bounded}
-use Rattle.enclosures.proofs.Steps.Enclosure.{constant-in, variable-in, indicator-in, arithmetic-in}
+use Rattle.enclosures.proofs.Steps.Enclosure.{constant-in, variable-in, indicator-in, arithmetic-in, division-in}
 use Rattle.enclosures.proofs.Steps.Enclosure.{literal-in, negation-in, connective-in, decided-in, comparison-in}
 use borrow.Fn.Kinds.{In}
 use borrow.Fn.PlainCycle.{Measures, is, falls, and}
@@ -27,6 +28,7 @@ use Rattle.enclosures.proofs.truth_in.Kinds as truth-in-kinds
 use Rattle.enclosures.proofs.+number_in+truth_in.Lts-truth_in as truth-in-lts
 use Rattle.domains.proofs.extents.combine.Reads as combine-reads
 use Rattle.domains.proofs.extents.compare.Reads as compare-reads
+use Rattle.domains.proofs.extents.divide.Reads as divide-reads
 use Rattle.domains.proofs.extents.indicator.Reads as indicator-reads
 use Rattle.domains.proofs.extents.spanning.Reads as spanning-reads
 use Rattle.domains.proofs.seen.connect.Reads as connect-reads
@@ -72,6 +74,8 @@ number-in-claims t = (
   number-in.Post,
   combine-reads.Asked,
   combine-reads.Learnt,
+  divide-reads.Asked,
+  divide-reads.Learnt,
   truth-in-below t,
   truth-in.Post,
   indicator-reads.Asked,
@@ -104,6 +108,12 @@ module _ (t : ℕ) where
   combined c = let m = c .before .before .before in
       two _ _ _ _ _ _ (m .before .before .before .pre .1) (arithmetic-form (omega arith) (omega arith)) (m .after .ensures) refl
 
+  divided : (c : number-in-lts.Then4 (number-in-claims t) (number-in-at t) number-in.Post)
+      → let m = c .before .before .before .before .before in let a = m .before .before .before .args in
+      Two (a .levels) numberSort divisorSort Division (a .part .now) (a .spans .now) (a .at) (m .after .result .now) (a .b .low)
+  divided c = let m = c .before .before .before .before .before in
+      two _ _ _ _ _ _ (m .before .before .before .pre .1) (division-form (omega arith) (omega arith)) (m .after .ensures) refl
+
   connected : (c : truth-in-lts.Then2 (truth-in-claims t) (truth-in-at t) truth-in.Post)
       → let m = c .before .before .before in let a = m .before .before .before .args in
       Two (a .levels) truthSort truthSort Connective (a .part .now) (a .spans .now) (a .at) (m .after .result .now) (a .b .low)
@@ -121,7 +131,8 @@ module _ (t : ℕ) where
   indicated : (c : number-in-lts.Joined1 (number-in-claims t) (number-in-at t) number-in.Post)
       → formAt (c .before .before .before .before .before .args .part .now) 0 ≡ Indicator
   indicated c = let k = number-kinds _ _ _ (c .before .before .before .before .before .pre .1 .0) in
-      indicator-form (⊎-elim (λ w. absurd (omega arith)) (λ w. omega arith) (c .if1 .came))
+      indicator-form
+      (⊎-elim (λ w. absurd (omega arith)) (⊎-elim (λ w. omega (arith, k .2 (omega arith))) (λ w. absurd (omega arith))) (c .if1 .came))
 
   -- ---- a variable is one of twelve
   named : (c : number-in-lts.At-match-keys2 (number-in-claims t) (number-in-at t) number-in.Post)
@@ -191,6 +202,36 @@ module _ (t : ℕ) where
   number-in-combine-requires c κs =
       (rw (c .before .before .before .number-in .ensures) (number-bounded _ _ _), rw (c .number-in2 .ensures) (number-bounded _ _ _))
 
+  number-in-number-in-requires-3 : number-in-lts.Need-number-in-requires-3 (number-in-claims t) (number-in-at t) number-in.Post
+  number-in-number-in-requires-3 c κs = let s = divided c in
+      (omega (arith, c .before .before .before .before .before .before .before .before .pre .0), s .left)
+
+  number-in-mul-middle-2 : number-in-lts.Need-mul-middle-2 (number-in-claims t) (number-in-at t) number-in.Post
+  number-in-mul-middle-2 c = omega (arith, divided (c .before) .entry)
+
+  number-in-element-copy-out-middle-2 : number-in-lts.Need-element-copy-out-middle-2 (number-in-claims t) (number-in-at t) number-in.Post
+  number-in-element-copy-out-middle-2 c = omega (arith, divided (c .before) .entry)
+
+  number-in-cast-middle-2 : number-in-lts.Need-cast-middle-2 (number-in-claims t) (number-in-at t) number-in.Post
+  number-in-cast-middle-2 c = omega (arith, divided (c .before .before) .within)
+
+  number-in-add-middle-2 : number-in-lts.Need-add-middle-2 (number-in-claims t) (number-in-at t) number-in.Post
+  number-in-add-middle-2 c = omega (arith, divided (c .before .before) .within)
+
+  number-in-after-requires-3 : number-in-lts.Need-after-requires-3 (number-in-claims t) (number-in-at t) number-in.Post
+  number-in-after-requires-3 c κs = omega (arith, divided (c .before .before) .within)
+
+  number-in-constant-requires-2 : number-in-lts.Need-constant-requires-2 (number-in-claims t) (number-in-at t) number-in.Post
+  number-in-constant-requires-2 c κs = there _ _ _ _ _ _ (divided (c .before .before .before) .right (c .after3 .ensures))
+
+  -- the divisor is the constant that the second operand is
+  by-constant : (c : number-in-lts.After-constant2 (number-in-claims t) (number-in-at t) number-in.Post)
+      → toZ w64 (ofZ w64 (c .constant2 .result)) ≡ valueB (c .before .after3 .result .now) 0
+  by-constant c = back w64 (c .constant2 .result) (c .constant2 .ok) ∙ c .constant2 .ensures
+
+  number-in-divide-requires : number-in-lts.Need-divide-requires (number-in-claims t) (number-in-at t) number-in.Post
+  number-in-divide-requires c κs = rw (by-constant c) (divisor-above _ _ _ (divided (c .before .before .before .before) .right (c .before .after3 .ensures) .0))
+
   number-in-truth-in-requires : number-in-lts.Need-truth-in-requires (number-in-claims t) (number-in-at t) number-in.Post
   number-in-truth-in-requires c κs = let h = c .before .before .before .before .before .pre .1 in let l = level _ _ _ _ _ _ h in
       (omega (arith, c .before .before .before .before .before .pre .0), one _ _ _ _ _ _ h (indicated c) (c .before .before .after .ensures) refl)
@@ -215,7 +256,12 @@ module _ (t : ℕ) where
       (c .before .before .after2 .ensures) (c .before .before .before .before .number-in .ensures) (c .before .number-in2 .ensures) refl
 
   number-in-returns-4 : number-in-lts.Need-returns-4 (number-in-claims t) (number-in-at t) number-in.Post
-  number-in-returns-4 c = c .indicator .ensures
+  number-in-returns-4 c = let m = c .before .before in
+      (rw (by-constant (c .before)) at (c .divide .ensures))
+      ∙ division-in _ (divided (m .before .before .before)) (m .after3 .ensures) (m .before .before .number-in3 .ensures) refl
+
+  number-in-returns-5 : number-in-lts.Need-returns-5 (number-in-claims t) (number-in-at t) number-in.Post
+  number-in-returns-5 c = c .indicator .ensures
       ∙ indicator-in (level _ _ _ _ _ _ (c .before .before .before .before .before .before .before .pre .1)) _ _
       (c .before .before .before .before .after .ensures) (c .before .truth-in .ensures) (indicated (c .before .before))
 
@@ -337,8 +383,10 @@ pub +number-in+truth-in-spec : {M : Type 1} → statement M
     (number-in-shared-slice-read-a t) (number-in-cast-a t) (number-in-element-requires t) (number-in-element-requires-2 t)
     (number-in-spanning-requires-2 t) (number-in-number-in-requires t) (number-in-mul-middle t) (number-in-element-copy-out-middle t)
     (number-in-cast-middle t) (number-in-add-middle t) (number-in-after-requires-2 t) (number-in-add-number-in t)
-    (number-in-number-in-requires-2 t) (number-in-combine-requires t) (number-in-truth-in-requires t) (number-in-indicator-requires t)
-    (number-in-returns t) (number-in-returns-2 t) (number-in-returns-3 t) (number-in-returns-4 t))
+    (number-in-number-in-requires-2 t) (number-in-combine-requires t) (number-in-number-in-requires-3 t) (number-in-mul-middle-2 t)
+    (number-in-element-copy-out-middle-2 t) (number-in-cast-middle-2 t) (number-in-add-middle-2 t) (number-in-after-requires-3 t)
+    (number-in-constant-requires-2 t) (number-in-divide-requires t) (number-in-truth-in-requires t) (number-in-indicator-requires t)
+    (number-in-returns t) (number-in-returns-2 t) (number-in-returns-3 t) (number-in-returns-4 t) (number-in-returns-5 t))
     (λ t. truth-in-lts.spec (truth-in-claims t) (truth-in-at t) truth-in.Post (truth-in-shared-slice-read-kind t) (truth-in-sub-below t)
     (truth-in-after-requires t) (truth-in-add-first t) (truth-in-truth-in-requires t) (truth-in-opposite-requires t)
     (truth-in-truth-in-requires-2 t) (truth-in-decides-requires t) (truth-in-connect-requires t) (truth-in-returns t) (truth-in-mul-middle t)

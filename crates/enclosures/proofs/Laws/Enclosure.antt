@@ -16,7 +16,7 @@ use lib.IntN.{ℤ, pos}
 use Rattle.integers.specs.Interval.{bounds}
 use Rattle.integers.specs.Inside.{In, Bounded}
 use Rattle.records.specs.Form.{Form}
-use Rattle.records.specs.Form.Form.{Constant, Variable, Arithmetic, Indicator, Literal, Negation, Connective, Comparison, Unfit}
+use Rattle.records.specs.Form.Form.{Constant, Variable, Arithmetic, Indicator, Division, Literal, Negation, Connective, Comparison, Unfit}
 use Rattle.records.specs.Record.{kindAt, fieldA}
 use Rattle.records.specs.Kind.{number as numberSort, truth as truthSort}
 use Rattle.records.specs.Form.{formAt}
@@ -24,8 +24,9 @@ use Rattle.records.proofs.Laws.Kind.{number-forms, truth-forms}
 use Rattle.intervals.specs.Interval.{interval}
 use Rattle.expressions.specs.Expression.{partAt, number, truth, holdsOf}
 use Rattle.expressions.specs.Fits.{Fits}
-use Rattle.expressions.proofs.Laws.Expression.{number-constant, number-variable, number-arithmetic, number-indicator, truth-literal, truth-negation}
-use Rattle.expressions.proofs.Laws.Expression.{truth-connective, truth-comparison, holds-is, fits-level, fits-record, fits-small, fits-one, fits-two}
+use Rattle.expressions.proofs.Laws.Expression.{number-constant, number-variable, number-arithmetic, number-indicator, number-division, truth-literal}
+use Rattle.expressions.proofs.Laws.Expression.{truth-negation, truth-connective, truth-comparison, holds-is, fits-level, fits-record, fits-small, fits-one}
+use Rattle.expressions.proofs.Laws.Expression.{fits-two, divisor-above, divisor-worth}
 use Rattle.expressions.proofs.Laws.Sound.{constant-in}
 use Rattle.states.proofs.Laws.State.{within-at}
 use Rattle.boxes.specs.declared.Box.{Box}
@@ -36,7 +37,8 @@ use Rattle.domains.specs.declared.extents.Extent.{Extent}
 use Rattle.domains.specs.Seen.{Says}
 use Rattle.enclosures.specs.Enclosure.{numberInBy, truthInBy, numberIn, truthIn, seenOf}
 use Rattle.domains.proofs.Laws.Seen.{yes-says, no-says, literal-says, opposite-says, connect-says}
-use Rattle.domains.proofs.Laws.Extent.{extent-bounded, extent-in, combine-bounded, indicator-bounded, combine-in-extent, indicator-in-extent, compare-says}
+use Rattle.domains.proofs.Laws.Extent.{extent-bounded, extent-in, combine-bounded, divide-bounded, indicator-bounded, combine-in-extent}
+use Rattle.domains.proofs.Laws.Extent.{divide-in-extent, indicator-in-extent, compare-says}
 
 -- ---- opened
 module _ {levels below : ℕ} (e : levels ≡ suc below) (part : List ℕ) (b : Box) {f : Form} (is : formAt part 0 ≡ f) where
@@ -55,6 +57,7 @@ bounded-by levels N T Constant part b = extent-bounded _ _ _
 bounded-by levels N T Variable part b = extent-bounded _ _ _
 bounded-by levels N T Arithmetic part b = combine-bounded _ _ _
 bounded-by levels N T Indicator part b = indicator-bounded _
+bounded-by levels N T Division part b = divide-bounded _ _ _
 bounded-by levels N T Literal part b = extent-bounded _ _ _
 bounded-by levels N T Negation part b = extent-bounded _ _ _
 bounded-by levels N T Connective part b = extent-bounded _ _ _
@@ -112,9 +115,17 @@ module _ {b : Box} {state : List ℤ} (inside : Inside b state) where
           let o = fits-one {below = levels} refl part state is numberSort h refl in
           rw (number-in-opens {below = levels} refl part b is, n) (indicator-in-extent _ _ (ih .truths _ o) (rw n at small))
 
+      division-lies : Lies Division
+      unfolding numberInBy
+      division-lies is =
+          let o = fits-two {below = levels} refl part state is numberSort h refl in
+          let n = rw (divisor-worth levels _ state (o .1)) at (number-division {below = levels} refl part state is) in
+          rw (number-in-opens {below = levels} refl part b is, n)
+          (divide-in-extent _ _ _ (divisor-above levels _ state (o .1)) (ih .numbers _ (o .0)) (rw n at small))
+
       number-lies : In (number (suc levels) part state) (numberIn (suc levels) part b .span)
       number-lies =
-          number-forms Lies (kindAt part 0) constant-lies variable-lies arithmetic-lies indicator-lies
+          number-forms Lies (kindAt part 0) constant-lies variable-lies arithmetic-lies indicator-lies division-lies
           (fits-record (suc levels) numberSort part state h .sort) refl
 
     -- ---- and a truth

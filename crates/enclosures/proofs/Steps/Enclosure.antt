@@ -7,7 +7,7 @@ use Prim.Native.Nat.{ℕ, suc, _+_, _-_}
 use lib.ListN.{getD}
 use lib.IntN.{pos}
 use Rattle.records.specs.Form.{Form}
-use Rattle.records.specs.Form.Form.{Constant, Variable, Arithmetic, Indicator, Literal, Negation, Connective, Comparison}
+use Rattle.records.specs.Form.Form.{Constant, Variable, Arithmetic, Indicator, Division, Literal, Negation, Connective, Comparison}
 use Rattle.records.specs.Record.{kindAt, fieldA, valueB}
 use Rattle.records.specs.Form.{formOf, formAt}
 use Rattle.expressions.specs.Expression.{partAt}
@@ -17,7 +17,7 @@ use Rattle.boxes.specs.declared.Box.{Box}
 use Rattle.domains.specs.declared.seen.Seen.{Seen}
 use Rattle.domains.specs.declared.extents.Extent.{Extent}
 use Rattle.domains.specs.Seen.{oppositeOf, connectIn, decidesOf, literalIn}
-use Rattle.domains.specs.Extent.{extentOf, combineIn, indicatorIn, compareIn}
+use Rattle.domains.specs.Extent.{extentOf, combineIn, divideIn, indicatorIn, compareIn}
 use Rattle.enclosures.specs.Enclosure.{numberInBy, truthInBy, numberIn, truthIn}
 use Rattle.domains.proofs.Laws.Seen.{decided}
 use Rattle.enclosures.proofs.Laws.Enclosure.{number-in-opens, truth-in-opens}
@@ -56,6 +56,10 @@ module _ {levels i j : ℕ} {f : Form} {part table : List ℕ} {at : ℕ} {p : L
       pub comparison-in : f ≡ Comparison → compareIn (kindAt part 0) x y ≡ truthIn levels part b
       unfolding truthInBy
       comparison-in k = rw (v, t .second d, u, t .first, truth-in-opens (t .level) part b (t .is ∙ k))
+
+    pub division-in : {x : Extent} → x ≡ numberIn (levels - 1) p b → f ≡ Division → divideIn (kindAt part 0) x (valueB q 0) ≡ numberIn levels part b
+    unfolding numberInBy
+    division-in u k = rw (t .second d, u, t .first, number-in-opens (t .level) part b (t .is ∙ k))
 
     pub connective-in : {x y : Seen} → x ≡ truthIn (levels - 1) p b → y ≡ truthIn (levels - 1) q b → f ≡ Connective
         → connectIn (kindAt part 0) x y ≡ truthIn levels part b

@@ -1,24 +1,25 @@
 -- The evaluators meet their contracts, by the kind of the record. The measure is the levels left; at one level `operand` comes before `number_at`.
 -- Assumes nothing.
-use mathlib.Core.Path.{refl, sym, _∙_}
+use mathlib.Core.Path.{_≡_, refl, sym, _∙_}
 use Prim.Native.Nat.{ℕ, _+_, _*_, _≤_, _<_}
 use native.Mathlib.Omega.{arith}
 use borrow.Author.Tests.{not-true, not-false}
 use lib.IntN.{_+ℤ_, _-ℤ_, _*ℤ_}
 use mir.Syntax.{w16, w64}
+use mir.Val.{toZ, ofZ}
 use Rattle.integers.proofs.Laws.Parts.{back}
 use Rattle.integers.proofs.Laws.Bounds.{sum-fits, difference-fits, product-fits, op-fits, op-back}
 use Rattle.records.specs.Form.{Form}
-use Rattle.records.specs.Form.Form.{Arithmetic, Connective, Comparison}
-use Rattle.records.specs.Record.{kindAt, fieldA}
-use Rattle.records.specs.Kind.{number as numberSort, truth as truthSort}
+use Rattle.records.specs.Form.Form.{Arithmetic, Division, Connective, Comparison}
+use Rattle.records.specs.Record.{kindAt, fieldA, valueB}
+use Rattle.records.specs.Kind.{number as numberSort, truth as truthSort, divisor as divisorSort}
 use Rattle.records.proofs.Laws.Kind.{constant-form, variable-form, arithmetic-form, indicator-form, literal-form, negation-form, connective-form}
-use Rattle.records.proofs.Laws.Kind.{comparison-form}
+use Rattle.records.proofs.Laws.Kind.{comparison-form, division-form}
 use Rattle.intervals.proofs.Laws.Combine.{combine-sum, combine-difference, combine-product}
 use Rattle.expressions.specs.Expression.{connectOf}
-use Rattle.expressions.proofs.Laws.Expression.{fits-record}
+use Rattle.expressions.proofs.Laws.Expression.{fits-record, divisor-above}
 use Rattle.expressions.proofs.Laws.Operand.{number-kinds, truth-kinds, Two, there, level, one, two}
-use Rattle.expressions.proofs.Steps.Expression.{left-small, right-small, constant-is, variable-is, arithmetic-is, indicator-is}
+use Rattle.expressions.proofs.Steps.Expression.{left-small, right-small, constant-is, variable-is, arithmetic-is, indicator-is, division-is}
 use Rattle.expressions.proofs.Steps.Expression.{literal-is, negation-is, connective-is, decided-is, comparison-is}
 use borrow.Fn.Kinds.{In}
 use borrow.Fn.PlainCycle.{Measures, is, falls, and}
@@ -36,6 +37,7 @@ use Rattle.expressions.proofs.compare.Reads as compare-reads
 use Rattle.expressions.proofs.constant.Reads as constant-reads
 use Rattle.expressions.proofs.indicator.Reads as indicator-reads
 use Rattle.integers.proofs.state.widen.Reads as widen-reads
+use Rattle.intervals.proofs.divide.Reads as divide-reads
 use Rattle.expressions.proofs.+number_at+operand+truth_at.{statement}
 use Rattle.expressions.proofs.+number_at+operand+truth_at.Tie.{close}
 
@@ -82,6 +84,8 @@ number-at-claims t = (
   truth-at.Post,
   indicator-reads.Asked,
   indicator-reads.Learnt,
+  divide-reads.Asked,
+  divide-reads.Learnt,
 )
 
 abbrev operand-claims : ℕ → operand-lts.Claims
@@ -125,6 +129,13 @@ module _ (t : ℕ) where
 
   product : (c : number-at-lts.At-match-keys5 (number-at-claims t) (number-at-at t) number-at.Post) → Numbers (c .before)
   product c = summed (c .before) (omega (arith, c .match .keys5)) (omega (arith, c .match .keys5))
+
+  divided : (c : number-at-lts.Then2 (number-at-claims t) (number-at-at t) number-at.Post)
+      → let m = c .before .before .before in
+      let a = m .before .before .before .args in
+      Two (a .levels) numberSort divisorSort Division (a .part .now) (a .spans .now) (a .at) (m .after .result .now) (a .t4)
+  divided c = let m = c .before .before .before in
+      two _ _ _ _ _ _ (m .before .before .before .pre .1) (division-form (omega arith) (omega arith)) (m .after .ensures) refl
 
   -- ---- and those of a truth
   abbrev Truths : (over : ℕ) (f : Form) → truth-at-lts.After-after (truth-at-claims t) (truth-at-at t) truth-at.Post → Type 0
@@ -289,6 +300,35 @@ module _ (t : ℕ) where
   number-at-indicator-requires : number-at-lts.Need-indicator-requires (number-at-claims t) (number-at-at t) number-at.Post
   number-at-indicator-requires c κs = tt
 
+  number-at-operand-requires-7 : number-at-lts.Need-operand-requires-7 (number-at-claims t) (number-at-at t) number-at.Post
+  number-at-operand-requires-7 c κs = let s = divided c in (omega (arith, c .before .before .before .before .before .before .pre .0), s .left)
+
+  number-at-mul-middle-4 : number-at-lts.Need-mul-middle-4 (number-at-claims t) (number-at-at t) number-at.Post
+  number-at-mul-middle-4 c = omega (arith, divided (c .before) .entry)
+
+  number-at-element-copy-out-middle-4 : number-at-lts.Need-element-copy-out-middle-4 (number-at-claims t) (number-at-at t) number-at.Post
+  number-at-element-copy-out-middle-4 c = omega (arith, divided (c .before) .entry)
+
+  number-at-cast-middle-4 : number-at-lts.Need-cast-middle-4 (number-at-claims t) (number-at-at t) number-at.Post
+  number-at-cast-middle-4 c = omega (arith, divided (c .before .before) .within)
+
+  number-at-add-middle-4 : number-at-lts.Need-add-middle-4 (number-at-claims t) (number-at-at t) number-at.Post
+  number-at-add-middle-4 c = omega (arith, divided (c .before .before) .within)
+
+  number-at-after-requires-5 : number-at-lts.Need-after-requires-5 (number-at-claims t) (number-at-at t) number-at.Post
+  number-at-after-requires-5 c κs = omega (arith, divided (c .before .before) .within)
+
+  number-at-constant-requires-2 : number-at-lts.Need-constant-requires-2 (number-at-claims t) (number-at-at t) number-at.Post
+  number-at-constant-requires-2 c κs = there _ _ _ _ _ _ (divided (c .before .before .before) .right (c .after5 .ensures))
+
+  -- the divisor is the constant that the second operand is
+  by-constant : (c : number-at-lts.After-constant2 (number-at-claims t) (number-at-at t) number-at.Post)
+      → toZ w64 (ofZ w64 (c .constant2 .result)) ≡ valueB (c .before .after5 .result .now) 0
+  by-constant c = back w64 (c .constant2 .result) (c .constant2 .ok) ∙ c .constant2 .ensures
+
+  number-at-divide-requires : number-at-lts.Need-divide-requires (number-at-claims t) (number-at-at t) number-at.Post
+  number-at-divide-requires c κs = rw (by-constant c) (divisor-above _ _ _ (divided (c .before .before .before .before) .right (c .before .after5 .ensures) .0))
+
   number-at-returns : number-at-lts.Need-returns (number-at-claims t) (number-at-at t) number-at.Post
   number-at-returns c = rw (back w64 (c .constant .result) (c .constant .ok), c .constant .ensures)
       (constant-is _ _ _ _ _ _ (c .before .before .before .before .before .pre .1) (constant-form (c .before .match .keys1)))
@@ -328,7 +368,17 @@ module _ (t : ℕ) where
       (c .before .truth-at .ensures) (indicator-form (c .before .before .match .keys6)))
 
   number-at-returns-7 : number-at-lts.Need-returns-7 (number-at-claims t) (number-at-at t) number-at.Post
-  number-at-returns-7 c = let k = number-kinds _ _ _ (c .before .before .before .before .pre .1 .0) in absurd (omega arith)
+  number-at-returns-7 c = let m = c .before .before in
+      let x = m .before .before .operand7 in
+      rw (back w64 (c .divide .result) (c .divide .ok), c .divide .ensures, back w64 (x .result) (x .ok), by-constant (c .before))
+      (division-is (divided (m .before .before .before)) (m .after5 .ensures) refl (x .ensures))
+
+  number-at-returns-8 : number-at-lts.Need-returns-8 (number-at-claims t) (number-at-at t) number-at.Post
+  number-at-returns-8 c = let k = number-kinds _ _ _ (c .before .before .before .before .before .pre .1 .0) in
+      absurd (omega (arith, k .2 (omega arith)))
+
+  number-at-returns-9 : number-at-lts.Need-returns-9 (number-at-claims t) (number-at-at t) number-at.Post
+  number-at-returns-9 c = let k = number-kinds _ _ _ (c .before .before .before .before .before .before .pre .1 .0) in absurd (omega arith)
 
   -- `operand`
   operand-shared-slice-read-kind : operand-lts.Need-shared-slice-read-kind (operand-claims t) (operand-at t) operand.Post
@@ -583,8 +633,10 @@ pub +number-at+operand+truth-at-spec : {M : Type 1} → statement M
     (number-at-add-operand-2 t) (number-at-operand-requires-4 t) (number-at-sub-result t) (number-at-operand-requires-5 t) (number-at-mul-middle-3 t)
     (number-at-element-copy-out-middle-3 t) (number-at-cast-middle-3 t) (number-at-add-middle-3 t) (number-at-after-requires-4 t)
     (number-at-add-operand-3 t) (number-at-operand-requires-6 t) (number-at-mul-result t) (number-at-truth-at-requires t)
-    (number-at-indicator-requires t) (number-at-returns t) (number-at-returns-2 t) (number-at-returns-3 t) (number-at-returns-4 t)
-    (number-at-returns-5 t) (number-at-returns-6 t) (number-at-returns-7 t))
+    (number-at-indicator-requires t) (number-at-operand-requires-7 t) (number-at-mul-middle-4 t) (number-at-element-copy-out-middle-4 t)
+    (number-at-cast-middle-4 t) (number-at-add-middle-4 t) (number-at-after-requires-5 t) (number-at-constant-requires-2 t) (number-at-divide-requires t)
+    (number-at-returns t) (number-at-returns-2 t) (number-at-returns-3 t) (number-at-returns-4 t) (number-at-returns-5 t) (number-at-returns-6 t)
+    (number-at-returns-7 t) (number-at-returns-8 t) (number-at-returns-9 t))
     (λ t. operand-lts.spec (operand-claims t) (operand-at t) operand.Post (operand-shared-slice-read-kind t) (operand-constant-requires t)
     (operand-shared-slice-read-a t) (operand-cast-a t) (operand-mul-value t) (operand-array-copy-out-value t) (operand-widen-requires t)
     (operand-number-at-requires t) (operand-returns t) (operand-returns-2 t) (operand-returns-3 t))

@@ -1,10 +1,12 @@
 -- Laws of what an expression is worth, by the form of its record, one level further in for its operands.
 --     first-is, second-is                                     the parts of the operands
 --     number-constant, number-variable, number-arithmetic, number-indicator     a number of each form (C2.3 to C2.6)
+--     number-division                                         and a quotient or remainder (C2.14)
 --     truth-literal, truth-negation, truth-connective, truth-comparison         a truth of each form (C2.7 to C2.10)
 --     holds-is                                                a truth expression of a file
 --     fits-level, fits-record, fits-small                     an expression that fits has a level and a record that fits, and a number is small
 --     fits-opens, fits-one, fits-two                          its operands fit
+--     divisor-above, divisor-worth                            a divisor is above 0, and worth its own value
 --     fits-within, fits-here                                  all its records are there
 -- Assumes nothing.
 use mathlib.Core.Path.{_≡_, refl, _∙_}
@@ -16,17 +18,18 @@ use borrow.Author.Tests.{le-leb, lt-leb, ne-eqb}
 use lib.ListN.{length, getD, length-drop}
 use lib.Dec.{eqb}
 use lib.IntN.{ℤ, pos}
+use lib.Signed.{_≤ℤ_}
 use Rattle.integers.specs.Interval.{bounds}
 use Rattle.integers.specs.Inside.{In}
 use Rattle.records.specs.Form.{Form}
-use Rattle.records.specs.Form.Form.{Constant, Variable, Arithmetic, Indicator, Literal, Negation, Connective, Comparison}
+use Rattle.records.specs.Form.Form.{Constant, Variable, Arithmetic, Indicator, Division, Literal, Negation, Connective, Comparison}
 use Rattle.records.specs.Record.{kindAt, fieldA, valueB}
-use Rattle.records.specs.Kind.{row, signatureOf, signatureAt, number as numberSort}
+use Rattle.records.specs.Kind.{row, signatureOf, signatureAt, number as numberSort, divisor as divisorSort}
 use Rattle.records.specs.Form.{formAt, rowOf}
 use Rattle.records.specs.Walk.{spans, span}
 use Rattle.records.proofs.Laws.Kind.{operands-most, form-range, signature-by}
 use Rattle.records.proofs.Laws.Span.{spans-none, spans-one, spans-two, span-opens}
-use Rattle.intervals.specs.Interval.{combine}
+use Rattle.intervals.specs.Interval.{combine, divide}
 use Rattle.expressions.specs.Expression.{partAt, firstOperand, secondOperand, indicatorOf, connectOf, compareOf, numberBy, truthBy, number, truth}
 use Rattle.expressions.specs.Expression.{holdsOf}
 use Rattle.expressions.specs.Fits.{RecordFits, OperandsFit, Fits}
@@ -64,11 +67,19 @@ module _ {levels below : ℕ} (e : levels ≡ suc below) (part : List ℕ) (stat
   number-arithmetic is =
       let k = kindAt part 0 in
       let r = form-range k is in
-      number-opens ∙ rw (ne-eqb k 0x10 (λ z. omega arith), ne-eqb k 0x11 (λ z. omega arith), ne-eqb k 0x15 (λ z. omega arith))
+      number-opens ∙ rw (ne-eqb k 0x10 (λ z. omega arith), ne-eqb k 0x11 (λ z. omega arith), ne-eqb k 0x15 (λ z. omega arith), lt-leb 0x18 k (omega arith))
 
   pub number-indicator : formAt part 0 ≡ Indicator → number levels part state ≡ indicatorOf (truth below (firstOperand part) state)
   unfolding numberBy
   number-indicator is = number-opens ∙ rw (form-range (kindAt part 0) is)
+
+  pub number-division : formAt part 0 ≡ Division
+      → number levels part state ≡ divide (kindAt part 0) (number below (firstOperand part) state) (number below (secondOperand below part) state)
+  unfolding numberBy
+  number-division is =
+      let k = kindAt part 0 in
+      let r = form-range k is in
+      number-opens ∙ rw (ne-eqb k 0x10 (λ z. omega arith), ne-eqb k 0x11 (λ z. omega arith), ne-eqb k 0x15 (λ z. omega arith), le-leb 0x18 k (r .0))
 
   pub truth-literal : formAt part 0 ≡ Literal → truth levels part state ≡ eqb (kindAt part 0) 0x20
   unfolding truthBy
@@ -128,6 +139,15 @@ pub fits-small : (levels : ℕ) (part : List ℕ) (state : List ℤ) → Fits le
 unfolding Fits
 fits-small zero part state h = absurd h
 fits-small (suc levels) part state h = h .1 refl
+
+-- a divisor
+module _ (levels : ℕ) (part : List ℕ) (state : List ℤ) (h : Fits levels divisorSort part state) where
+  pub divisor-above : pos 1 ≤ℤ valueB part 0
+  divisor-above = fits-record levels divisorSort part state h .divisor refl .1
+
+  pub divisor-worth : number levels part state ≡ valueB part 0
+  divisor-worth =
+      number-constant (fits-level levels divisorSort part state h) part state (fits-record levels divisorSort part state h .divisor refl .0)
 
 -- ---- its records
 operands-within : (F : ℕ → List ℕ → Type 0) (below : ℕ) (part : List ℕ) (a b n : ℕ) → n ≤ 2 → 8 ≤ length part

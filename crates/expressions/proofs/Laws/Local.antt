@@ -9,7 +9,7 @@ use native.Mathlib.Omega.{arith}
 use lib.IntN.{ℤ}
 use Rattle.records.specs.Form.{Form}
 use Rattle.records.specs.Record.{kindAt}
-use Rattle.records.specs.Kind.{row, signatureAt, number as numberSort, truth as truthSort}
+use Rattle.records.specs.Kind.{row, sortFor, signatureAt, number as numberSort, truth as truthSort}
 use Rattle.records.specs.Form.{formOf, formAt, rowOf}
 use Rattle.records.specs.Walk.{walkOf}
 use Rattle.records.specs.declared.walk.Walked.the-variants.{End}
@@ -18,7 +18,7 @@ use Rattle.records.proofs.Laws.Walk.{walk-deepest}
 use Rattle.records.proofs.Laws.Span.{kind-part, form-part, walk-span}
 use Rattle.records.proofs.Laws.Local.{kind-same, a-same, b-same, Copy, TwoCopies, CopiedRecord, copy-opens, walk-local}
 use Rattle.expressions.specs.Expression.{partAt, firstOperand, secondOperand, number, truth, holdsOf}
-use Rattle.expressions.proofs.Laws.Expression.{number-constant, number-variable, number-arithmetic, number-indicator}
+use Rattle.expressions.proofs.Laws.Expression.{number-constant, number-variable, number-arithmetic, number-indicator, number-division}
 use Rattle.expressions.proofs.Laws.Expression.{truth-literal, truth-negation, truth-connective, truth-comparison}
 use Rattle.expressions.proofs.Laws.Sound.{variable-part, value-part, first-part, second-part}
 
@@ -33,7 +33,8 @@ module _ (file file′ : List ℕ) (vars : ℕ) (state : List ℤ) where
   -- two parts are worth the same, as numbers or as truths, by their sort
   abbrev Alike : ℕ → ℕ → List ℕ → List ℕ → Type 0
   Alike levels want part part′ =
-      (want ≡ numberSort → number levels part state ≡ number levels part′ state) × (want ≡ truthSort → truth levels part state ≡ truth levels part′ state)
+      (sortFor want ≡ numberSort → number levels part state ≡ number levels part′ state)
+      × (sortFor want ≡ truthSort → truth levels part state ≡ truth levels part′ state)
 
   module _ (levels want at at′ n : ℕ) (o : CopiedRecord file file′ vars levels want at at′ n)
       (operand : (want x x′ k : ℕ) → Copy file file′ vars levels want x x′ k → Alike levels want (partAt file x) (partAt file′ x′)) where
@@ -89,6 +90,7 @@ module _ (file file′ : List ℕ) (vars : ℕ) (state : List ℤ) where
         (λ is. both is (λ p. number-variable here p state) (rw (variable-part file at, variable-part file′ at′, a-same file file′ at at′ (o .byte))))
         (λ is. let t = two-alike is refl in both is (λ p. number-arithmetic here p state) (rw (kind-alike, t .0 .0 refl, t .1 .0 refl)))
         (λ is. both is (λ p. number-indicator here p state) (rw (one-alike is refl .1 refl)))
+        (λ is. let t = two-alike is refl in both is (λ p. number-division here p state) (rw (kind-alike, t .0 .0 refl, t .1 .0 refl)))
 
     truths-alike : signatureAt file at .sort ≡ truthSort → Truths (formAt file at)
     truths-alike =

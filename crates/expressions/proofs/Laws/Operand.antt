@@ -25,7 +25,8 @@ use Rattle.expressions.proofs.Laws.Span.{spans-from}
 
 -- ---- the kinds of the numbers and of the truths
 module _ (levels : ℕ) (part : List ℕ) (state : List ℤ) where
-  pub number-kinds : Fits levels numberSort part state → (0x10 ≤ kindAt part 0) × (kindAt part 0 ≤ 0x15)
+  pub number-kinds : Fits levels numberSort part state
+      → (0x10 ≤ kindAt part 0) × (kindAt part 0 ≤ 0x19) × (kindAt part 0 < 0x18 → kindAt part 0 ≤ 0x15)
   number-kinds h = number-range (kindAt part 0) (fits-record levels numberSort part state h .sort)
 
   pub truth-kinds : Fits levels truthSort part state → (0x20 ≤ kindAt part 0) × (kindAt part 0 ≤ 0x29)

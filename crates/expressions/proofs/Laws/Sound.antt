@@ -1,6 +1,6 @@
 -- Intervals are sound: in a state whose values lie in the ranges, an expression of a readable file fits, and a number lies in its interval.
---     expression-fits               it fits: its records are there, their kinds fit, and every number is small
---     number-in                     a number lies in its interval
+--     expression-fits               it fits: its records are there, their kinds fit, every number is small, and no divisor is below 1
+--     number-in                     a number lies in its interval, a divisor too
 --     indicator-in, constant-in     indicators and constants lie in theirs
 -- Assumes nothing.
 use mathlib.Core.Path.{_≡_, refl, sym, ap, _∙_}
@@ -18,20 +18,20 @@ use Rattle.truths.proofs.Laws.Truth.{by-test}
 use Rattle.integers.proofs.Laws.Parts.{ints}
 use Rattle.integers.proofs.Laws.Interval.{in-bounds}
 use Rattle.records.specs.Form.{Form}
-use Rattle.records.specs.Form.Form.{Constant, Variable, Arithmetic, Indicator}
+use Rattle.records.specs.Form.Form.{Constant, Variable, Arithmetic, Indicator, Division}
 use Rattle.records.specs.Record.{kindAt, fieldA, valueB, valueC}
-use Rattle.records.specs.Kind.{row, signatureOf, signatureAt, number as numberSort}
+use Rattle.records.specs.Kind.{row, sortFor, signatureOf, signatureAt, number as numberSort, divisor as divisorSort}
 use Rattle.records.specs.Form.{formAt, rowOf}
 use Rattle.records.specs.Walk.{span}
 use Rattle.records.proofs.Laws.Kind.{number-forms, signature-by}
 use Rattle.records.proofs.Laws.Span.{kind-part, form-part}
 use Rattle.intervals.specs.Interval.{interval, unit}
 use Rattle.intervals.specs.Expression.{Expression, Operands}
-use Rattle.intervals.proofs.Laws.Combine.{leaf-constant, leaf-variable, join-arithmetic, combine-in}
-use Rattle.intervals.proofs.Laws.Expression.{expression-opens, expression-deepest, expression-bounded, expression-span}
+use Rattle.intervals.proofs.Laws.Combine.{leaf-constant, leaf-variable, join-arithmetic, join-division, combine-in, divisor-is, divide-in}
+use Rattle.intervals.proofs.Laws.Expression.{expression-opens, expression-deepest, expression-bounded, expression-span, expression-divisor}
 use Rattle.expressions.specs.Expression.{partAt, firstOperand, secondOperand, indicatorOf, number}
 use Rattle.expressions.specs.Fits.{OperandsFit, Fits}
-use Rattle.expressions.proofs.Laws.Expression.{number-constant, number-variable, number-arithmetic, number-indicator}
+use Rattle.expressions.proofs.Laws.Expression.{number-constant, number-variable, number-arithmetic, number-indicator, number-division}
 
 -- ---- the fields of a part's record are the file's, and its parts are
 module _ (file : List ℕ) (at : ℕ) where
@@ -76,7 +76,7 @@ module _ (file : List ℕ) (vars : ℕ) (most : vars ≤ 12) (state : List ℤ)
   -- what is to be shown of an expression
   record Sound (levels want at : ℕ) (i : Interval) : Type 0 where
     fits : Fits levels want (partAt file at) state
-    number-lies : want ≡ numberSort → In (number levels (partAt file at) state) i
+    number-lies : sortFor want ≡ numberSort → In (number levels (partAt file at) state) i
 
   module _ (levels at end : ℕ) (ih : (want at end : ℕ) (i : Interval) → Expression file vars levels want at end i → Sound levels want at i) where
     second-at : {want mid : ℕ} {j : Interval} → Expression file vars levels want (at + 1) mid j → secondOperand levels (partAt file at) ≡ partAt file mid
@@ -119,7 +119,7 @@ module _ (file : List ℕ) (vars : ℕ) (most : vars ≤ 12) (state : List ℤ)
     arithmetic-lies i is (Operands.two {mid} {j} {k} m x y) =
         let first : signatureAt file at .first ≡ numberSort = rw (signature-by (kindAt file at) is) in
         let second : signatureAt file at .second ≡ numberSort = rw (signature-by (kindAt file at) is) in
-        let operands-in = combine-in (kindAt file at) (ih _ _ _ _ x .number-lies first) (ih _ _ _ _ y .number-lies second) in
+        let operands-in = combine-in (kindAt file at) (ih _ _ _ _ x .number-lies (rw first)) (ih _ _ _ _ y .number-lies (rw second)) in
         rw (
           number-arithmetic {below = levels} refl (partAt file at) state (form-at is),
           join-arithmetic (kindAt file at) is,
@@ -135,21 +135,43 @@ module _ (file : List ℕ) (vars : ℕ) (most : vars ≤ 12) (state : List ℤ)
         rw (number-indicator {below = levels} refl (partAt file at) state (form-at is)) (indicator-in _)
     indicator-lies i is (Operands.two {mid} {j} {k} m x y) = absurd (omega (arith, count-at is refl m))
 
+    division-lies : Lies Division
+    division-lies i is (Operands.none m e) = absurd (omega (arith, count-at is refl m))
+    division-lies i is (Operands.one {j} m x) = absurd (omega (arith, count-at is refl m))
+    division-lies i is (Operands.two {mid} {j} {k} m x y) =
+        let first : signatureAt file at .first ≡ numberSort = rw (signature-by (kindAt file at) is) in
+        let second : signatureAt file at .second ≡ divisorSort = rw (signature-by (kindAt file at) is) in
+        let d = expression-divisor file vars mid end levels (rw second at y) in
+        let in-second = rw (d .alone) at (ih _ _ _ _ y .number-lies (rw second)) in
+        let worth : number levels (partAt file mid) state ≡ valueB file mid = omega (ints, in-second .above, in-second .below) in
+        rw (
+          number-division {below = levels} refl (partAt file at) state (form-at is),
+          join-division (kindAt file at) is,
+          kind-part file at,
+          first-part file at,
+          second-at x,
+          worth,
+          d .alone,
+          divisor-is (valueB file mid) (d .above),
+        )
+        (divide-in (kindAt file at) (valueB file mid) (d .above) (ih _ _ _ _ x .number-lies (rw first)))
+
   sound : (levels want at end : ℕ) (i : Interval) → Expression file vars levels want at end i → Sound levels want at i
   unfolding Fits
   sound zero want at end i x = absurd (expression-deepest file vars want at end x)
   sound (suc levels) want at end i x =
       let o = expression-opens file vars levels at end x in
       let ih = sound levels in
-      let lies : want ≡ numberSort → In (number (suc levels) (partAt file at) state) i =
+      let lies : sortFor want ≡ numberSort → In (number (suc levels) (partAt file at) state) i =
       λ w. number-forms (Lies levels at end ih) (kindAt file at) (constant-lies levels at end ih) (variable-lies levels at end ih (o .variable))
-      (arithmetic-lies levels at end ih) (indicator-lies levels at end ih) (o .sort ∙ w) i refl (o .operands) in
+      (arithmetic-lies levels at end ih) (indicator-lies levels at end ih) (division-lies levels at end ih) (o .sort ∙ w) i refl (o .operands) in
       record {
         fits = (
           record {
             there = part-length file at (o .here);
             sort = ap (λ k. signatureOf k .sort) (kind-part file at) ∙ o .sort;
             variable = λ v. rw (variable-part file at) (let l = o .variable (sym (form-part file at) ∙ v) in omega arith);
+            divisor = λ w. rw (form-part file at, value-part file at) (o .divisor w);
           },
           λ w. in-bounds (expression-bounded file vars want at end x) (lies w),
           rw (kind-part file at) (operands-fit levels at end ih (o .operands)),
@@ -161,5 +183,5 @@ module _ (file : List ℕ) (vars : ℕ) (most : vars ≤ 12) (state : List ℤ)
     pub expression-fits : Fits levels want (partAt file at) state
     expression-fits = sound levels want at end i x .fits
 
-    pub number-in : want ≡ numberSort → In (number levels (partAt file at) state) i
+    pub number-in : sortFor want ≡ numberSort → In (number levels (partAt file at) state) i
     number-in = sound levels want at end i x .number-lies

@@ -9,15 +9,15 @@ use lib.IntN.{ℤ, pos}
 use Rattle.integers.specs.Interval.{bounds}
 use Rattle.integers.specs.Inside.{In}
 use Rattle.records.specs.Form.{Form}
-use Rattle.records.specs.Form.Form.{Constant, Variable, Arithmetic, Indicator, Literal, Negation, Connective, Comparison}
+use Rattle.records.specs.Form.Form.{Constant, Variable, Arithmetic, Indicator, Division, Literal, Negation, Connective, Comparison}
 use Rattle.records.specs.Record.{kindAt, fieldA, valueB}
-use Rattle.records.specs.Kind.{number as numberSort}
+use Rattle.records.specs.Kind.{number as numberSort, divisor as divisorSort}
 use Rattle.records.specs.Form.{formOf, formAt}
-use Rattle.intervals.specs.Interval.{combine}
+use Rattle.intervals.specs.Interval.{combine, divide}
 use Rattle.expressions.specs.Expression.{partAt, indicatorOf, connectOf, compareOf, number, truth}
 use Rattle.expressions.specs.Fits.{Fits}
-use Rattle.expressions.proofs.Laws.Expression.{first-is, number-constant, number-variable, number-arithmetic, number-indicator}
-use Rattle.expressions.proofs.Laws.Expression.{truth-literal, truth-negation, truth-connective, truth-comparison, fits-small}
+use Rattle.expressions.proofs.Laws.Expression.{first-is, number-constant, number-variable, number-arithmetic, number-indicator, number-division}
+use Rattle.expressions.proofs.Laws.Expression.{truth-literal, truth-negation, truth-connective, truth-comparison, fits-small, divisor-worth}
 use Rattle.expressions.proofs.Laws.Operand.{Asked, Two, level}
 
 -- ---- the answers
@@ -71,3 +71,10 @@ module _ {levels : ℕ} {f : Form} {part table : List ℕ} {at : ℕ} {p : List 
 
     pub right-small : {q : List ℕ} → q ≡ partAt part (1 + getD table (at + 1) 0) → {y : ℤ} → y ≡ number (levels - 1) q state → In y bounds
     right-small {q} d b = number-small (levels - 1) q state (t .right d .0) b
+
+-- ---- a quotient or remainder by the constant that its second operand is
+module _ {levels : ℕ} {part table : List ℕ} {at : ℕ} {p : List ℕ} {state : List ℤ} (t : Two levels numberSort divisorSort Division part table at p state)
+    {q : List ℕ} (d : q ≡ partAt part (1 + getD table (at + 1) 0)) where
+  pub division-is : {kind : ℕ} → kindAt part 0 ≡ kind → {x : ℤ} → x ≡ number (levels - 1) p state → divide kind x (valueB q 0) ≡ number levels part state
+  division-is is a =
+      rw (← is, ← divisor-worth (levels - 1) q state (t .right d .0), t .second d, a, t .first, number-division (t .level) part state (t .is))

@@ -32,6 +32,10 @@ module _ (x y : ℤ) where
   unfolding maxZ
   max-right = by-test (leZ x y) (λ t. y ≤ℤ cond t y x) (λ h. omega ints) (λ h. omega ints)
 
+  pub max-right-is : x ≤ℤ y → maxZ x y ≡ y
+  unfolding maxZ
+  max-right-is h = let e : leZ x y ≡ true = omega ints in rw e
+
 -- the least and the greatest of four
 module _ (p q r s : ℤ) where
   min-1 : minZ (minZ p q) (minZ r s) ≤ℤ p

@@ -19,6 +19,7 @@ use Rattle.records.specs.Record.{kindIs}
 use Rattle.records.specs.Kind.{none, signatureOf, signatureAt}
 use Rattle.records.specs.Walk.{walkOf}
 use Rattle.records.proofs.Laws.Record.{kind-is}
+use Rattle.records.proofs.Laws.Kind.{sort-for-some}
 use Rattle.records.proofs.Laws.Walk.{walk-opens}
 use Rattle.intervals.specs.declared.Analysis.{Analysis}
 use Rattle.intervals.specs.declared.Analysis.the-variants.{Within, Out}
@@ -89,7 +90,7 @@ module _ (file : List ℕ) (answer : Walked) (vars want at end : ℕ) (some : wa
   here = walk-opens file vars 15 want at end w .here
 
   sorted : signatureAt file at .sort ≡ none → ⊥
-  sorted u = some (sym (walk-opens file vars 15 want at end w .fit) ∙ u)
+  sorted u = sort-for-some want some (sym (walk-opens file vars 15 want at end w .fit) ∙ u)
 
   tried-by : (a : Analysis) → analysisOf file 16 at ≡ a → Tried file answer at end
   tried-by (Analysis.Within i e) is =

@@ -17,10 +17,10 @@ use lib.Seq.{length-take-le, take-nil, take-take, drop-drop, getD-take, getD-dro
 use Rattle.records.specs.declared.walk.Walked.{Walked}
 use Rattle.records.specs.declared.walk.Walked.the-variants.{End}
 use Rattle.records.specs.Record.{value, kindAt, fieldA, valueB, valueC, zerosOf}
-use Rattle.records.specs.Kind.{signatureAt}
-use Rattle.records.specs.Walk.{expressionFields, inSequence, operandsOf, recordThen, walkOf, span}
+use Rattle.records.specs.Kind.{sortFor, signatureAt}
+use Rattle.records.specs.Walk.{expressionFields, suits, inSequence, operandsOf, recordThen, divisorThen, walkOf, span}
 use Rattle.records.proofs.Laws.Kind.{operands-most}
-use Rattle.records.proofs.Laws.Walk.{walk-opens, walk-deepest, walk-bound, First, operands-none, operands-one, operands-two}
+use Rattle.records.proofs.Laws.Walk.{walk-opens, walk-suits, walk-deepest, walk-bound, First, operands-none, operands-one, operands-two}
 use Rattle.records.proofs.Laws.Span.{walk-span}
 
 -- ---- records that are the same
@@ -104,6 +104,10 @@ module _ (file file′ : List ℕ) (at at′ : ℕ) (byte : SameRecord file file
   fields-same vars =
       rw (kind-same, a-same, zeros-same 1 1 (omega arith), zeros-same 4 4 (omega arith), zeros-same 2 6 (omega arith), zeros-same 1 7 (omega arith))
 
+  suits-same : (want : ℕ) → suits file want at ≡ suits file′ want at′
+  unfolding suits
+  suits-same want = rw (kind-same, b-same)
+
 -- ---- a copied expression
 -- it walks over n records, and they are the same as those from `at′` on
 pub record Copy (file file′ : List ℕ) (vars levels want at at′ n : ℕ) : Type 0 where
@@ -122,8 +126,9 @@ pub record TwoCopies (file file′ : List ℕ) (vars levels a b at at′ n : ℕ
 pub record CopiedRecord (file file′ : List ℕ) (vars levels want at at′ n : ℕ) : Type 0 where
   pub some : 1 ≤ n
   pub there : at′ < length file′ / 8
-  pub sort : signatureAt file at .sort ≡ want
+  pub sort : signatureAt file at .sort ≡ sortFor want
   pub fields : expressionFields file vars at ≡ true
+  pub suits : suits file want at ≡ true
   pub byte : SameRecord file file′ at at′
   pub none : signatureAt file at .operands ≡ 0 → n ≡ 1
   pub one : signatureAt file at .operands ≡ 1 → Copy file file′ vars levels (signatureAt file at .first) (at + 1) (at′ + 1) (n - 1)
@@ -170,6 +175,7 @@ copy-opens file file′ vars levels want at at′ n c =
       there = omega arith;
       sort = o .fit;
       fields = o .right;
+      suits = walk-suits file vars levels want at (at + n) (c .walks);
       byte = rw (add-zero, add-zero) at (same-record file file′ at at′ n (c .same) 0 (omega arith));
       none = λ m. omega (arith, operands-none walk _ _ _ _ (rw m at o .operands));
       one = λ m. one-by file file′ vars levels at at′ n (c .same) _ (operands-one walk _ _ _ _ (rw m at o .operands));
@@ -177,7 +183,7 @@ copy-opens file file′ vars levels want at at′ n c =
     }
 
 -- ---- the copy's walk
-record-closes : (file : List ℕ) (vars want at : ℕ) (rest : Walked) → at < length file / 8 → signatureAt file at .sort ≡ want
+record-closes : (file : List ℕ) (vars want at : ℕ) (rest : Walked) → at < length file / 8 → signatureAt file at .sort ≡ sortFor want
     → expressionFields file vars at ≡ true → recordThen file vars want at rest ≡ rest
 unfolding recordThen
 record-closes file vars want at rest l s f = rw (lt-ltb _ _ l, eq-eqb _ _ s, f)
@@ -197,12 +203,17 @@ module _ (file file′ : List ℕ) (vars : ℕ) where
     operands-walk (suc (suc (suc q))) is l = absurd (omega arith)
 
   pub walk-local : (levels want at at′ n : ℕ) → Copy file file′ vars levels want at at′ n → walkOf file′ vars levels want at′ ≡ End (at′ + n)
-  unfolding walkOf
+  unfolding walkOf divisorThen
   walk-local zero want at at′ n c = absurd (walk-deepest file vars want at (at + n) (c .walks))
   walk-local (suc levels) want at at′ n c =
       let o = copy-opens file file′ vars levels want at at′ n c in
       let k = kind-same file file′ at at′ (o .byte) in
-      rw (record-closes file′ vars want at′ _ (o .there) (rw (← k) (o .sort)) (rw (← fields-same file file′ at at′ (o .byte) vars) (o .fields)), ← k)
+      rw (
+        record-closes file′ vars want at′ _ (o .there) (rw (← k) (o .sort)) (rw (← fields-same file file′ at at′ (o .byte) vars) (o .fields)),
+        ← suits-same file file′ at at′ (o .byte) want,
+        o .suits,
+        ← k,
+      )
       (operands-walk levels want at at′ n o (walk-local levels) (signatureAt file at .operands) refl (operands-most (kindAt file at)))
 
   pub span-local : (levels want at at′ n : ℕ) → Copy file file′ vars levels want at at′ n

@@ -2,19 +2,20 @@
 --     refused-then         of a part and others behind it, it is what refuses the part or the others
 --     refused-sequence     of parts in sequence it is what refuses one of them
 --     refused-walk         of an expression it has a number of 3 or more, and its place is a record of the file or the record count
+--     divisor-refused      a record that fits where a divisor is asked, but isn't one, is refused with 19, whatever stands behind it (C10.19, C11.2)
 -- Assumes nothing.
 use mathlib.Core.Path.{_≡_, refl, _∙_}
 use mathlib.Core.Bool.{Bool, true, false, cond, _&&_, and-eq-true-iff}
 use mathlib.Core.List.{List}
 use Prim.Native.Nat.{ℕ, zero, suc, _+_, _/_, _<_, _≤_}
 use native.Mathlib.Omega.{arith}
-use borrow.Author.Tests.{ltb-true}
+use borrow.Author.Tests.{ltb-true, lt-ltb, eq-eqb}
 use lib.ListN.{length}
 use lib.Dec.{ltb, eqb}
 use Rattle.records.specs.declared.walk.Walked.{Walked}
 use Rattle.records.specs.declared.walk.Walked.the-variants.{End, Refused}
-use Rattle.records.specs.Kind.{signatureAt}
-use Rattle.records.specs.Walk.{expressionFields, andThen, inSequence, operandsOf, recordThen, walkOf}
+use Rattle.records.specs.Kind.{number as numberSort, divisor, sortFor, signatureAt}
+use Rattle.records.specs.Walk.{expressionFields, suits, andThen, inSequence, operandsOf, recordThen, divisorThen, walkOf}
 use Rattle.records.proofs.Laws.Walk.{walk-bound}
 
 -- ---- parts that end by `most`: Q is what is known of a refusal of one of them
@@ -58,18 +59,32 @@ module _ (file : List ℕ) (vars number place : ℕ) where
     unfolding recordThen
     refused-record want e =
         let here = ltb at (length file / 8) in
-        let fit = eqb (signatureAt file at .sort) want in
+        let fit = eqb (signatureAt file at .sort) (sortFor want) in
         refused-test (here && fit) (expressionFields file vars at) (λ t. ltb-true _ _ (and-eq-true-iff here fit .0 t .0)) e
 
+    refused-divisor : at < length file / 8 → (t : Bool) → cond t rest (Refused 19 at) ≡ Refused number place → Right
+    refused-divisor h true e = behind h e
+    refused-divisor h false e = let z : 19 ≡ number = cc in let y : at ≡ place = cc in omega arith
+
   pub refused-walk : (levels want at : ℕ) → at ≤ length file / 8 → walkOf file vars levels want at ≡ Refused number place → Right
-  unfolding walkOf
+  unfolding walkOf divisorThen
   refused-walk zero want at l e =
       refused-record at (Refused 5 at) l (λ m q. let z : 5 ≡ number = cc in let y : at ≡ place = cc in omega arith) want e
   refused-walk (suc levels) want at l e =
       let s = signatureAt file at in
       let part = walkOf file vars levels in
-      refused-record at (operandsOf part (s .first) (s .second) (s .operands) (at + 1)) l
+      let operands = operandsOf part (s .first) (s .second) (s .operands) (at + 1) in
+      refused-record at (divisorThen file want at operands) l
+      (λ m.
+      refused-divisor at operands l
       (λ m q.
       refused-operands part (length file / 8) number place Right (λ want i x w. walk-bound file vars levels want i x w .1) (refused-walk levels)
       (s .first) (s .second) (s .operands) (at + 1) (omega arith) q)
+      m (suits file want at))
       want e
+
+-- ---- a divisor, with its fields right and a level left
+pub divisor-refused : (file : List ℕ) (vars levels at : ℕ) → at < length file / 8 → signatureAt file at .sort ≡ numberSort
+    → expressionFields file vars at ≡ true → suits file divisor at ≡ false → walkOf file vars (suc levels) divisor at ≡ Refused 19 at
+unfolding walkOf recordThen divisorThen
+divisor-refused file vars levels at l s f t = rw (lt-ltb _ _ l, eq-eqb _ _ s, f, t)

@@ -1,5 +1,6 @@
 -- Laws of the walk that the crates above cite.
 --     walk-opens     an expression that walks to an end: what its record is, and that its operands walk to that end (C2.1)
+--     walk-suits     and that it is a divisor where one is asked (C2.15)
 --     walk-bound     the end lies behind the record and within the file
 --     then-first, then-ends               a part, and what follows it: where the part ends, unless its refusal stands
 --     sequence-none, sequence-next        no part, and one behind a part that ends
@@ -17,13 +18,13 @@ use lib.ListN.{length}
 use lib.Dec.{ltb, eqb}
 use Rattle.records.specs.declared.walk.Walked.{Walked}
 use Rattle.records.specs.declared.walk.Walked.the-variants.{End, Refused}
-use Rattle.records.specs.Walk.{expressionFields, andThen, inSequence, operandsOf, recordThen, walkOf}
-use Rattle.records.specs.Kind.{signatureAt}
+use Rattle.records.specs.Walk.{expressionFields, suits, andThen, inSequence, operandsOf, recordThen, divisorThen, walkOf}
+use Rattle.records.specs.Kind.{sortFor, signatureAt}
 
 -- what is known of a record that passed its tests, where `rest` follows it: the walk of its operands
 pub record WalkedRecord (file : List ℕ) (vars want at : ℕ) (rest : Walked) (end : ℕ) : Type 0 where
   pub here : at < length file / 8
-  pub fit : signatureAt file at .sort ≡ want
+  pub fit : signatureAt file at .sort ≡ sortFor want
   pub right : expressionFields file vars at ≡ true
   pub operands : rest ≡ End end
 
@@ -38,16 +39,33 @@ record-opens : (file : List ℕ) (vars want at : ℕ) (rest : Walked) (end : ℕ
 unfolding recordThen
 record-opens file vars want at rest end e =
     let here = ltb at (length file / 8) in
-    let fit = eqb (signatureAt file at .sort) want in
+    let fit = eqb (signatureAt file at .sort) (sortFor want) in
     let p = passed (here && fit) (expressionFields file vars at) rest at end e in
     let b = and-eq-true-iff here fit .0 (p .0) in
     record { here = ltb-true _ _ (b .0); fit = eqb-true _ _ (b .1); right = p .1; operands = p .2 }
 
-pub walk-opens : (file : List ℕ) (vars levels want at end : ℕ) → walkOf file vars (suc levels) want at ≡ End end
-    → let s = signatureAt file at in
-    WalkedRecord file vars want at (operandsOf (walkOf file vars levels) (s .first) (s .second) (s .operands) (at + 1)) end
-unfolding walkOf
-walk-opens file vars levels want at end e = record-opens file vars want at _ end e
+-- past the test of a divisor
+suited : (t : Bool) (rest : Walked) (at end : ℕ) → cond t rest (Refused 19 at) ≡ End end → (t ≡ true) × (rest ≡ End end)
+suited true rest at end e = (refl, e)
+suited false rest at end e = let z : _≡_ {A = ℕ} 0 1 = cc in absurd (omega arith)
+
+module _ (file : List ℕ) (vars levels want at end : ℕ) (e : walkOf file vars (suc levels) want at ≡ End end) where
+  abbrev operands : Walked
+  operands = let s = signatureAt file at in operandsOf (walkOf file vars levels) (s .first) (s .second) (s .operands) (at + 1)
+
+  opened : WalkedRecord file vars want at (divisorThen file want at operands) end
+  unfolding walkOf
+  opened = record-opens file vars want at _ end e
+
+  tested : (suits file want at ≡ true) × (operands ≡ End end)
+  unfolding divisorThen
+  tested = suited (suits file want at) operands at end (opened .operands)
+
+  pub walk-opens : WalkedRecord file vars want at operands end
+  walk-opens = record { here = opened .here; fit = opened .fit; right = opened .right; operands = tested .1 }
+
+  pub walk-suits : suits file want at ≡ true
+  walk-suits = tested .0
 
 pub walk-deepest : (file : List ℕ) (vars want at end : ℕ) → walkOf file vars zero want at ≡ End end → ⊥
 unfolding walkOf

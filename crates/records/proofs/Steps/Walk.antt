@@ -11,8 +11,8 @@ use lib.ListN.{length}
 use Rattle.records.specs.declared.kinds.Signature.{Signature}
 use Rattle.records.specs.declared.walk.Walked.{Walked}
 use Rattle.records.specs.declared.walk.Walked.the-variants.{End, Refused}
-use Rattle.records.specs.Kind.{signatureAt}
-use Rattle.records.specs.Walk.{expressionFields, inSequence, operandsOf, recordThen, walkOf}
+use Rattle.records.specs.Kind.{sortFor, signatureAt}
+use Rattle.records.specs.Walk.{expressionFields, suits, inSequence, operandsOf, recordThen, divisorThen, walkOf}
 use Rattle.truths.proofs.Laws.Answer.{unless-taken, unless-left}
 
 -- operands of one sort are parts in sequence
@@ -76,18 +76,18 @@ module _ (file : List ℕ) (vars want at : ℕ) where
   refused : (levels : ℕ) (w : Walked) → ((rest : Walked) → recordThen file vars want at rest ≡ w) → w ≡ walkOf file vars levels want at
   unfolding walkOf
   refused zero w h = sym (h (Refused 5 at))
-  refused (suc levels) w h = sym (h (operands levels (signatureAt file at)))
+  refused (suc levels) w h = sym (h (divisorThen file want at (operands levels (signatureAt file at))))
 
   pub walk-short : (levels : ℕ) → length file / 8 ≤ at → Refused 3 at ≡ walkOf file vars levels want at
   unfolding recordThen
   walk-short levels h = refused levels (Refused 3 at) λ rest. simp (le-ltb _ _ h)
 
   module _ (s : Signature) (is : s ≡ signatureAt file at) (here : at < length file / 8) where
-    pub walk-unfit : (levels : ℕ) → (s .sort ≡ want → ⊥) → Refused 3 at ≡ walkOf file vars levels want at
+    pub walk-unfit : (levels : ℕ) → (s .sort ≡ sortFor want → ⊥) → Refused 3 at ≡ walkOf file vars levels want at
     unfolding recordThen
     walk-unfit levels h = refused levels (Refused 3 at) λ rest. simp (← is, lt-ltb _ _ here, ne-eqb _ _ h)
 
-    module _ (fit : s .sort ≡ want) {right : Bool} (f : right ≡ expressionFields file vars at) where
+    module _ (fit : s .sort ≡ sortFor want) {right : Bool} (f : right ≡ expressionFields file vars at) where
       pub walk-field : (levels : ℕ) → not right ≡ true → Refused 4 at ≡ walkOf file vars levels want at
       unfolding recordThen
       walk-field levels h = refused levels (Refused 4 at) λ rest. simp (← is, lt-ltb _ _ here, eq-eqb _ _ fit, unless-taken f h)
@@ -102,7 +102,14 @@ module _ (file : List ℕ) (vars want at : ℕ) where
         walk-deep zero h = sym (passes (Refused 5 at))
         walk-deep (suc levels) h = absurd (omega arith)
 
-        pub walk-step : (levels : ℕ) → (levels ≡ 0 → ⊥) → walkOf file vars levels want at ≡ operands (levels - 1) s
-        unfolding walkOf
-        walk-step zero h = absurd (h refl)
-        walk-step (suc levels) h = rw (is, sub-one) (passes (operands levels (signatureAt file at)))
+        module _ {suit : Bool} (d : suit ≡ suits file want at) where
+          pub walk-divisor : (levels : ℕ) → (levels ≡ 0 → ⊥) → not suit ≡ true → Refused 19 at ≡ walkOf file vars levels want at
+          unfolding walkOf divisorThen
+          walk-divisor zero h t = absurd (h refl)
+          walk-divisor (suc levels) h t = sym (passes (divisorThen file want at (operands levels (signatureAt file at))) ∙ rw (unless-taken d t))
+
+          pub walk-step : (levels : ℕ) → (levels ≡ 0 → ⊥) → not suit ≡ false → walkOf file vars levels want at ≡ operands (levels - 1) s
+          unfolding walkOf divisorThen
+          walk-step zero h t = absurd (h refl)
+          walk-step (suc levels) h t =
+              passes (divisorThen file want at (operands levels (signatureAt file at))) ∙ rw (unless-left d t, is, sub-one)

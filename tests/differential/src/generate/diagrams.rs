@@ -3,7 +3,7 @@
 
 use super::{
     join, plain, range, record, value, Code, Draft, Edge, Grower, Random, Record, Transition,
-    CHAIN, INVARIANCE, WAIT_FOR,
+    CHAIN, DIVISIONS, INVARIANCE, WAIT_FOR,
 };
 
 /// The chance, in percent, that a part which establishes the claim is left out or is weaker.
@@ -17,6 +17,7 @@ pub fn diagram(random: &mut Random) -> Vec<Record> {
         ranges: &ranges,
         tame: true,
         limits: 1,
+        divisions: DIVISIONS,
     };
     let mut records = Builder::new(grower).draft().records();
     for _ in 0..random.pick(&[0, 0, 0, 0, 1, 1, 1, 2]) {
@@ -71,6 +72,14 @@ fn at_most(left: &Code, right: &Code) -> Code {
 
 fn difference(left: &Code, right: &Code) -> Code {
     join(0x13, &[left, right])
+}
+
+fn quotient(left: &Code, divisor: i64) -> Code {
+    join(0x18, &[left, &value(divisor)])
+}
+
+fn remainder(left: &Code, divisor: i64) -> Code {
+    join(0x19, &[left, &value(divisor)])
 }
 
 /// All of them, with few levels.
@@ -309,7 +318,7 @@ fn rank(grower: &mut Grower, property: u8) -> Rank {
     let (low, high) = (value(low.into()), value(high.into()));
     let first = number as u8;
     let by = 1 + grower.random.below(2) as i64;
-    let mut rank = match grower.random.below(4) {
+    let mut rank = match grower.random.below(6) {
         0 => {
             let number = difference(&variable(first), &low);
             let lower = difference(&variable(first), &value(by));
@@ -351,6 +360,28 @@ fn rank(grower: &mut Grower, property: u8) -> Rank {
                 by: 1,
             }
         }
+        3 => {
+            // Each step leads to the numbers with the next lower quotient. Those of the least one
+            // may not all be in range.
+            let divisor = grower.random.within(2, 3);
+            Rank {
+                number: quotient(&variable(first), divisor),
+                least: -(-i64::from(ranges[number].0)).div_euclid(divisor),
+                lowering: vec![(first, difference(&variable(first), &value(divisor)))],
+                by: 1,
+            }
+        }
+        4 => {
+            // The low end leaves 0, whatever multiple is taken off, and numbers below 0 are divided.
+            let divisor = grower.random.within(2, 5);
+            let offset = i64::from(ranges[number].0) + divisor * grower.random.within(-1, 1);
+            Rank {
+                number: remainder(&difference(&variable(first), &value(offset)), divisor),
+                least: 0,
+                lowering: vec![(first, difference(&variable(first), &value(1)))],
+                by: 1,
+            }
+        }
         _ if property != CHAIN => {
             let (number, (least, _)) = grower.number(3, false);
             Rank {
@@ -387,7 +418,7 @@ impl Grower<'_> {
     fn assigned(&mut self, number: u8) -> Code {
         let own = variable(number);
         let (low, high) = self.ranges[usize::from(number)];
-        match self.random.below(8) {
+        match self.random.below(11) {
             0 => value(self.random.within(low.into(), high.into())),
             1 => variable(self.random.below(self.ranges.len()) as u8),
             2 => join(0x12, &[&own, &value(1)]),
@@ -398,6 +429,13 @@ impl Grower<'_> {
                 let truth = self.truth(2, false);
                 join(kind, &[&own, &join(0x15, &[&truth])])
             }
+            6 | 7 => {
+                // On by some, and round at the end of the range.
+                let [low, high] = [low, high].map(i64::from);
+                let on = difference(&own, &value(low + self.random.within(-2, 2)));
+                join(0x12, &[&value(low), &remainder(&on, high - low + 1)])
+            }
+            8 => quotient(&own, self.random.within(1, 3)),
             _ => self.number(3, false).0,
         }
     }
@@ -421,7 +459,8 @@ fn slip(random: &mut Random, records: &mut Vec<Record>, variables: usize) {
         }
         0x10 => record(kind, a, beside(random, b), c, d),
         0x11 => record(kind, random.below(variables) as u8, b, c, d),
-        0x12..=0x14 => plain(0x12 + random.below(3) as u8),
+        0x12..=0x14 if random.percent(80) => plain(0x12 + random.below(3) as u8),
+        0x12..=0x14 | 0x18 | 0x19 => plain(0x18 + random.below(2) as u8),
         0x20 | 0x21 => plain(0x41 - kind),
         0x23..=0x26 => plain(0x23 + random.below(4) as u8),
         0x27..=0x29 => plain(0x27 + random.below(3) as u8),

@@ -358,6 +358,66 @@ fn double_and_enabling() {
     holds(&out, 7, &[false, true, true]);
 }
 
+/// C2.14 in guards, assigned values, properties and nodes; C12.2, C12.3, C12.5.
+#[test]
+fn going_round() {
+    // D without a guard: v becomes v + 1, and behind 2 comes 0.
+    let round = |divisor| {
+        let next = [r(0x19, 0), r(0x12, 0), r(0x11, 0), constant(1)];
+        let step = [r(0x03, 1), r(0x20, 0), r(0x04, 0)];
+        [&step[..], &next, &[constant(divisor)]].concat()
+    };
+    let nodes = [equal(2), equal(1), equal(0)];
+    let edges = [(0, 2, 1, 1), (0, 1, 0, 1)];
+    let property = (3, 0, &[always(), equal(2)][..]);
+    let chain = |step| file((0, 2), equal(0), &[step], property, &nodes, &edges);
+    accepted(&chain(round(3)), 8, 24);
+    // By 2, v = 1 is followed by 0: the step of node 1, condition 3.
+    broken(&chain(round(2)), 17, 1, 0, 3, 1, 11);
+    // In an invariance the step from 2 counts: by 4 it is out of range.
+    let property = (1, 0, &[always()][..]);
+    let invariance = |step| file((0, 2), equal(0), &[step], property, &[always()], &[]);
+    accepted(&invariance(round(3)), 4, 12);
+    broken(&invariance(round(4)), 16, 0, 0, 2, 2, 9);
+
+    // -3..2 in pairs by 2: 2 and 3, 0 and 1, -2 and -1, -4 and -3. From each pair, where v is less
+    // than 2, to the first of the next.
+    let half = [r(0x18, 0), r(0x11, 0), constant(2)];
+    let in_pair = |number| [&[r(0x27, 0)], &half[..], &[constant(number)]].concat();
+    let next = [
+        vec![r(0x03, 1)],
+        compare(0x28, 2),
+        vec![r(0x04, 0), r(0x12, 0), r(0x14, 0)],
+        half.to_vec(),
+        vec![constant(2), constant(2)],
+    ];
+    let nodes = [in_pair(1), in_pair(0), in_pair(-1), in_pair(-2)];
+    let edges = [(0, 3, 2, 1), (0, 2, 1, 1), (0, 1, 0, 1)];
+    let property = (3, 0, &[always(), equal(2)][..]);
+    let transitions = [next.concat()];
+    let chain = file((-3, 2), always(), &transitions, property, &nodes, &edges);
+    accepted(&chain, 11, 66);
+    // A cover that is broken at -2 and -1, the pair -1.
+    let not_there = [vec![r(0x22, 0)], in_pair(-1)].concat();
+    let property = (1, 0, &[not_there][..]);
+    let cover = file((-3, 2), always(), &[], property, &[always()], &[]);
+    broken(&cover, 15, 0, 255, 1, -2, 8);
+    holds(&cover, 1, &[true, false, false, true, true, true]);
+    // A guard: where v leaves 1 by 2, adding 3 leads out of the range from 1 only.
+    let odd = vec![r(0x27, 0), r(0x19, 0), r(0x11, 0), constant(2), constant(1)];
+    let property = (1, 0, &[always()][..]);
+    let odd = file(
+        (-3, 2),
+        always(),
+        &[step(0, &odd, 3)],
+        property,
+        &[always()],
+        &[],
+    );
+    broken(&odd, 16, 0, 0, 2, 1, 17);
+    holds(&odd, 2, &[true, true, true, true, false, true]);
+}
+
 /// C8.15, C12.2, C12.7.
 #[test]
 fn totals() {

@@ -156,3 +156,147 @@ fn connectives() {
         counts(&file(&[(0, 1), (0, 2)], &start), 6, starting);
     }
 }
+
+/// Compares variable 0 by a divisor, its quotient (18) or its remainder (19), with a value.
+fn divided(kind: u8, divisor: i16, value: i16) -> [(u8, u8, i16); 5] {
+    [
+        (0x27, 0, 0),
+        (kind, 0, 0),
+        (0x11, 0, 0),
+        (0x10, 0, divisor),
+        (0x10, 0, value),
+    ]
+}
+
+/// C2.14: rounded down, also below 0.
+#[test]
+fn quotients() {
+    for (divisor, quotient, starting) in [
+        // -8 and -7; 0 and 1, not -1; -2 and -1.
+        (2, -4, 2),
+        (2, 0, 2),
+        (2, -1, 2),
+        // -9 and 9 have their quotients for themselves.
+        (2, -5, 1),
+        (2, 4, 2),
+        (3, 3, 1),
+        (3, -3, 3),
+        (5, -1, 5),
+        (5, -2, 4),
+        (1, -7, 1),
+        (32_767, -1, 9),
+        (32_767, 0, 10),
+        (32_767, 1, 0),
+    ] {
+        let start = divided(0x18, divisor, quotient);
+        counts(&file(&[(-9, 9)], &start), 19, starting);
+    }
+}
+
+/// C2.14: from 0 up, also below 0.
+#[test]
+fn remainders() {
+    for (divisor, remainder, starting) in [
+        // The odd ones, from -9 to 9.
+        (2, 1, 10),
+        (2, 0, 9),
+        (2, -1, 0),
+        // -6, -1, 4, 9; -5, 0, 5.
+        (5, 4, 4),
+        (5, 0, 3),
+        (5, 5, 0),
+        (5, -1, 0),
+        (1, 0, 19),
+        // -9 alone.
+        (32_767, 32_758, 1),
+        (32_767, 0, 1),
+        (32_767, 9, 1),
+    ] {
+        let start = divided(0x19, divisor, remainder);
+        counts(&file(&[(-9, 9)], &start), 19, starting);
+    }
+}
+
+/// C2.14: v = q × d + r in every state.
+#[test]
+fn quotients_with_remainders() {
+    for divisor in [1, 2, 3, 7, 10, 32_767] {
+        let by = |kind| [(kind, 0, 0), (0x11, 0, 0), (0x10, 0, divisor)];
+        let mut start = vec![(0x27, 0, 0), (0x11, 0, 0), (0x12, 0, 0), (0x14, 0, 0)];
+        start.extend(by(0x18));
+        start.push((0x10, 0, divisor));
+        start.extend(by(0x19));
+        counts(&file(&[(-20, 20)], &start), 41, 41);
+    }
+}
+
+/// C2.14, C2.15, C2.6: in each other, and under an indicator.
+#[test]
+fn nested_quotients() {
+    let start = |outer: (u8, i16), inner: (u8, i16), value| {
+        [
+            (0x27, 0, 0),
+            (outer.0, 0, 0),
+            (inner.0, 0, 0),
+            (0x11, 0, 0),
+            (0x10, 0, inner.1),
+            (0x10, 0, outer.1),
+            (0x10, 0, value),
+        ]
+    };
+    // v by 2 leaves 2 by 3 where it is -4, -1 or 2: -8, -7, -2, -1, 4, 5.
+    let of_quotient = start((0x19, 3), (0x18, 2), 2);
+    counts(&file(&[(-9, 9)], &of_quotient), 19, 6);
+    // v leaves 2 or 3 by 5: -8, -7, -3, -2, 2, 3, 7, 8.
+    let of_remainder = start((0x18, 2), (0x19, 5), 1);
+    counts(&file(&[(-9, 9)], &of_remainder), 19, 8);
+    // By 2 and by 2 again, -2: -8 to -5. By 6 and by 4, 1: v leaves 1 or 5.
+    counts(&file(&[(-9, 9)], &start((0x18, 2), (0x18, 2), -2)), 19, 4);
+    counts(&file(&[(-9, 9)], &start((0x19, 4), (0x19, 6), 1)), 19, 6);
+    // The indicator of a quotient less than 0, equal to 1: -9 to -1.
+    let under = [
+        (0x27, 0, 0),
+        (0x15, 0, 0),
+        (0x28, 0, 0),
+        (0x18, 0, 0),
+        (0x11, 0, 0),
+        (0x10, 0, 3),
+        (0x10, 0, 0),
+        (0x10, 0, 1),
+    ];
+    counts(&file(&[(-9, 9)], &under), 19, 9);
+}
+
+/// C2.14: of numbers as far as the bounds, 1000 times v in -1000..1000.
+#[test]
+fn quotients_at_the_bounds() {
+    // By 7: 1,000,000 is 142,857 and 1; -1,000,000 is -142,858 and 6. By 32,767: 30 and 16,990, -31
+    // and 15,777; no two of the numbers leave the same.
+    for (kind, divisor, thousands, rest, starting) in [
+        (0x18, 7, 142, 857, 1),
+        (0x18, 7, -142, -858, 1),
+        (0x18, 7, -142, -857, 0),
+        (0x18, 1, 1000, 0, 1),
+        (0x18, 1, -1000, 0, 1),
+        (0x18, 32_767, 0, -31, 17),
+        (0x18, 32_767, 0, 30, 17),
+        (0x19, 32_767, 16, 990, 1),
+        (0x19, 32_767, 15, 777, 1),
+        (0x19, 1000, 0, 0, 2001),
+    ] {
+        let start = [
+            (0x27, 0, 0),
+            (kind, 0, 0),
+            (0x14, 0, 0),
+            (0x11, 0, 0),
+            (0x10, 0, 1000),
+            (0x10, 0, divisor),
+            (0x12, 0, 0),
+            (0x14, 0, 0),
+            (0x10, 0, thousands),
+            (0x10, 0, 1000),
+            (0x10, 0, rest),
+        ];
+        counts(&file(&[(-1000, 1000)], &start), 2001, starting);
+    }
+}

@@ -345,6 +345,219 @@ fn intervals() {
     refused(8, 4, &signs);
 }
 
+/// The chain with a start that compares a quotient (18) or remainder (19) of variable 0 with 0.
+/// 2 is the comparison, 3 the quotient, 4 the variable, 5 the divisor's first record.
+fn divided(kind: u8, divisor: &[[u8; 8]]) -> Records {
+    let start = [&[r(0x27), r(kind), r(0x11)], divisor, &[constant(0)]].concat();
+    with(chain(), 2..3, &start)
+}
+
+/// C2.14, C2.15, C10.19.
+#[test]
+fn divisors() {
+    for kind in [0x18, 0x19] {
+        for value in [1, 2, 256, 32_767] {
+            readable(&divided(kind, &[constant(value)]));
+        }
+        for value in [0, -1, -256, -32_768] {
+            refused(19, 5, &divided(kind, &[constant(value)]));
+        }
+        refused(19, 5, &divided(kind, &[r(0x11)]));
+        refused(19, 5, &divided(kind, &[r(0x15), r(0x20)]));
+        for arithmetic in [0x12, 0x13, 0x14, 0x18, 0x19] {
+            let divisor = [r(arithmetic), constant(4), constant(2)];
+            refused(19, 5, &divided(kind, &divisor));
+        }
+        // A variable of one value is no constant.
+        let one = with(divided(kind, &[r(0x11)]), 0..1, &[record(0x01, 0, 2, 2, 0)]);
+        refused(19, 5, &one);
+        // The left operand may be all of these.
+        let left = |left: &[[u8; 8]]| {
+            let start = [&[r(0x27), r(kind)], left, &[constant(1), constant(0)]].concat();
+            with(chain(), 2..3, &start)
+        };
+        readable(&left(&[constant(0)]));
+        readable(&left(&[constant(-32_768)]));
+        readable(&left(&[r(0x15), r(0x20)]));
+        readable(&left(&[r(kind), r(0x11), constant(3)]));
+        // In an assigned value, in a node.
+        let quotient = [r(kind), r(0x11), constant(0)];
+        refused(19, 8, &with(chain(), 6..7, &quotient));
+        let node = [&[r(0x28)], &quotient[..], &[constant(0)]].concat();
+        refused(19, 16, &with(chain(), 13..14, &node));
+    }
+}
+
+/// C10.3, C10.4, C11.2: what is tried at a divisor before it is refused with 19, what isn't.
+#[test]
+fn at_a_divisor() {
+    for kind in [0x18, 0x19] {
+        // Kinds: truths, no numbers, sections; the file's end.
+        for other in [
+            0x20, 0x22, 0x27, 0x16, 0x17, 0x1a, 0x1f, 0x00, 0x04, 0x06, 0xff,
+        ] {
+            refused(3, 5, &divided(kind, &[r(other)]));
+        }
+        let mut end = divided(kind, &[]);
+        end.truncate(5);
+        refused(3, 5, &end);
+        // Fields, of a divisor and of what is none.
+        for value in [1, 0, -1] {
+            for byte in [1, 4, 5, 6, 7] {
+                let mut bad = constant(value);
+                bad[byte] = 1;
+                refused(4, 5, &divided(kind, &[bad]));
+            }
+        }
+        refused(4, 5, &divided(kind, &[record(0x11, 1, 0, 0, 0)]));
+        refused(4, 5, &divided(kind, &[record(0x11, 0, 1, 0, 0)]));
+        let sum = [record(0x12, 0, 0, 0, 1), constant(1), constant(1)];
+        refused(4, 5, &divided(kind, &sum));
+        // Its operands aren't read: the file's end, no kind, a field.
+        for other in [0x12, 0x15, 0x18, 0x19] {
+            let mut end = divided(kind, &[r(other)]);
+            end.truncate(6);
+            refused(19, 5, &end);
+            refused(19, 5, &divided(kind, &[r(other), r(0xff)]));
+            refused(
+                19,
+                5,
+                &divided(kind, &[r(other), [0x10, 0, 0, 0, 0, 0, 0, 9]]),
+            );
+        }
+        // Fields of the quotient's own record.
+        for byte in 1..8 {
+            let mut records = divided(kind, &[constant(0)]);
+            records[3][byte] = 0x80;
+            refused(4, 3, &records);
+        }
+        // The left operand first.
+        let over = |left| with(divided(kind, &[constant(0)]), 4..5, &[left]);
+        refused(3, 4, &over(r(0x20)));
+        refused(4, 4, &over(record(0x11, 1, 0, 0, 0)));
+    }
+    // Beside the two kinds there is none.
+    for kind in [0x16, 0x17, 0x1a, 0x1b, 0x1c, 0x1d, 0x1e, 0x1f] {
+        refused(3, 3, &divided(kind, &[constant(1)]));
+    }
+    // A quotient is no truth.
+    for kind in [0x18, 0x19] {
+        refused(3, 2, &with(chain(), 2..3, &[r(kind), r(0x11), constant(1)]));
+    }
+}
+
+/// C11.1, C11.2, C2.12: 19 with 5, 6, 7, 8, 9 and 10.
+#[test]
+fn divisors_and_others() {
+    for kind in [0x18, 0x19] {
+        let deep = |nots: usize, value| {
+            let nots = vec![r(0x22); nots];
+            with(divided(kind, &[constant(value)]), 2..2, &nots)
+        };
+        // Both operands at level 16, at level 17.
+        readable(&deep(13, 1));
+        refused(19, 18, &deep(13, 0));
+        refused(5, 18, &deep(14, 1));
+        refused(5, 18, &deep(14, 0));
+        // Level 17 at a later record: the first node's, which is record 17, its truth 18.
+        let bad = divided(kind, &[constant(0)]);
+        let later = [vec![r(0x22); 16], vec![r(0x20)]].concat();
+        refused(19, 5, &with(bad.clone(), 18..19, &later));
+
+        // Assigned again behind it, and before it.
+        let quotient = [r(kind), r(0x11), constant(0)];
+        let again = [&quotient[..], &[r(0x04), r(0x11)]].concat();
+        refused(19, 8, &with(chain(), 6..7, &again));
+        let before = [&[r(0x11), r(0x04)], &quotient[..]].concat();
+        refused(6, 7, &with(chain(), 6..7, &before));
+
+        // Too many states; an interval out of bounds before it; an edge that breaks a rule, and a
+        // node without a double edge.
+        let states = [record(0x01, 0, 0, 2000, 0); 2];
+        refused(19, 6, &with(bad.clone(), 0..1, &states));
+        let mut good = bad.clone();
+        good[5] = constant(1);
+        refused(7, 1, &with(good.clone(), 0..1, &states));
+        let out = [
+            r(0x23),
+            r(0x28),
+            r(0x14),
+            constant(1001),
+            constant(1000),
+            r(0x11),
+        ];
+        refused(19, 11, &with(bad.clone(), 2..2, &out));
+        refused(8, 4, &with(good.clone(), 2..2, &out));
+        let edges = bad.len() - 2;
+        let up = [edge(0, 1, 2, 1)];
+        refused(19, 5, &with(bad.clone(), edges..edges + 1, &up));
+        refused(9, edges, &with(good.clone(), edges..edges + 1, &up));
+        refused(19, 5, &with(bad, edges..edges + 1, &[]));
+        refused(10, 1, &with(good, edges..edges + 1, &[]));
+    }
+}
+
+/// C3.4, C3.5, C3.7, C10.8.
+#[test]
+fn intervals_of_quotients_and_remainders() {
+    let start = |range: (i16, i16), number: &[[u8; 8]]| {
+        let start = [&[r(0x27)], number, &[constant(0)]].concat();
+        let records = with(chain(), 2..3, &start);
+        with(records, 0..1, &[record(0x01, 0, range.0, range.1, 0)])
+    };
+    let million = |sign: i16| [r(0x14), constant(1000 * sign), constant(1000)];
+    for (range, kind, divisor, low, high) in [
+        // Towards zero the low end would be -3; rounded up the high end would be 5.
+        ((-7, 9), 0x18, 2, -4, 4),
+        ((-8, 8), 0x18, 2, -4, 4),
+        ((-1, 1), 0x18, 2, -1, 0),
+        ((-9, -7), 0x18, 2, -5, -4),
+        ((-5, 3), 0x18, 1, -5, 3),
+        ((-1, 0), 0x18, 32_767, -1, 0),
+        // Whatever the range.
+        ((-7, 9), 0x19, 5, 0, 4),
+        ((0, 1), 0x19, 5, 0, 4),
+        ((-3, -3), 0x19, 5, 0, 4),
+        ((-3, 3), 0x19, 1, 0, 0),
+        ((0, 0), 0x19, 32_767, 0, 32_766),
+    ] {
+        let number = [r(kind), r(0x11), constant(divisor)];
+        for (end, sign) in [(low, -1), (high, 1)] {
+            // The end is moved to 0, then by a million: to the bound. One more is past it.
+            let moved = |more: i16| {
+                let inner = [&[r(0x12)], &number[..], &[constant(more - end)]].concat();
+                start(range, &[&[r(0x12)], &inner[..], &million(sign)].concat())
+            };
+            readable(&moved(0));
+            refused(8, 3, &moved(sign));
+        }
+    }
+    // A thousand times 0..1000, which 0..1001 would exceed; a thousand times -1000..0, of -1999..0
+    // and -2000..0 by 2, but not of -2001..0.
+    let thousand = |kind, divisor| [r(0x14), r(kind), r(0x11), constant(divisor), constant(1000)];
+    readable(&start((0, 9), &thousand(0x19, 1001)));
+    refused(8, 3, &start((0, 9), &thousand(0x19, 1002)));
+    readable(&start((-1999, 0), &thousand(0x18, 2)));
+    readable(&start((-2000, 0), &thousand(0x18, 2)));
+    refused(8, 3, &start((-2001, 0), &thousand(0x18, 2)));
+    // The left operand is judged, and before what stands behind it.
+    for kind in [0x18, 0x19] {
+        let out = [r(0x14), constant(1001), constant(1000)];
+        let divided = [&[r(kind)], &out[..], &[constant(32_767)]].concat();
+        refused(8, 4, &start((0, 1), &divided));
+        let both = [&[r(0x12)], &divided[..], &out[..]].concat();
+        refused(8, 5, &start((0, 1), &both));
+        let quotient = [r(kind), r(0x11), constant(2)];
+        let right = [&[r(0x12)], &quotient[..], &out[..]].concat();
+        refused(8, 7, &start((0, 1), &right));
+        // As far as the bounds.
+        for sign in [-1, 1] {
+            let at = [&[r(kind)], &million(sign)[..], &[constant(1)]].concat();
+            readable(&start((0, 1), &at));
+        }
+    }
+}
+
 /// C9.1, C9.2, C9.3, C9.4, C9.5, C9.6, C9.7, C9.8, C9.9, C10.9, C10.10.
 #[test]
 fn edge_rules() {

@@ -2,6 +2,7 @@
 //! lowest breaking state, or all hold; and the tests that this takes.
 
 use crate::builder::{count, verdict, Bytes};
+use crate::division::{by_pairs, going_round};
 use crate::examples::*;
 use independent::{check, read, single, Tested, Verdict};
 
@@ -16,7 +17,8 @@ impl Random {
 }
 
 pub fn examples() -> Vec<Bytes> {
-    vec![a(), b(), c(), d(), e(), f(), g(), h(), i(), j()]
+    let small = [a(), b(), c(), d(), e(), f(), g(), h(), i(), j()];
+    [&small[..], &[going_round(), by_pairs()]].concat()
 }
 
 /// A few small changes: bytes set, records doubled, dropped or taken from elsewhere.
@@ -100,9 +102,9 @@ fn values(file: &independent::File, mut number: usize) -> [i16; 12] {
 #[test]
 fn the_check_agrees_with_the_single_tests() {
     let mut random = Random(1);
-    let mut seen = [0; 19];
+    let (files, mut seen) = (examples(), [0; 20]);
     for round in 0..20_000 {
-        let file = changed(examples()[round % 10].clone(), &mut random);
+        let file = changed(files[round % files.len()].clone(), &mut random);
         if read(&file).map_or(false, |file| file.states() > 500) {
             continue;
         }
@@ -110,7 +112,7 @@ fn the_check_agrees_with_the_single_tests() {
         assert_eq!(verdict, by_single_tests(&file));
         seen[usize::from(verdict.number)] += 1;
     }
-    for number in [0, 3, 4, 6, 9, 10, 13, 14, 15, 16, 17, 18] {
+    for number in [0, 3, 4, 6, 9, 10, 13, 14, 15, 16, 17, 18, 19] {
         assert!(seen[number] > 0, "{number} not seen: {seen:?}");
     }
 }

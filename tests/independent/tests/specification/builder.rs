@@ -44,6 +44,14 @@ pub fn indicator(truth: Bytes) -> Bytes {
     with(0x15, &[truth])
 }
 
+pub fn quotient(left: Bytes, divisor: Bytes) -> Bytes {
+    with(0x18, &[left, divisor])
+}
+
+pub fn remainder(left: Bytes, divisor: Bytes) -> Bytes {
+    with(0x19, &[left, divisor])
+}
+
 // Truths.
 
 pub fn yes() -> Bytes {

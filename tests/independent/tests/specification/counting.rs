@@ -24,7 +24,7 @@ fn the_small_files() {
     assert_eq!(tests(&examples::j()), 4 * 4);
 }
 
-/// A file of each refusal from 2 to 10.
+/// A file of each of the refusals 2 to 10 and 19.
 fn refused() -> Vec<(u8, Bytes)> {
     let readable = |range, truth| join(&[range, start(truth), invariance(yes()), node(yes())]);
     let million_and_more = less(product(constant(1000), constant(1001)), constant(0));
@@ -38,10 +38,17 @@ fn refused() -> Vec<(u8, Bytes)> {
         (8, readable(variable(0, 1), million_and_more)),
         (9, examples::f()),
         (10, examples::g()),
+        (
+            19,
+            readable(
+                variable(0, 1),
+                less(quotient(value(0), constant(0)), constant(1)),
+            ),
+        ),
     ]
 }
 
-/// C12.7: none of the refusals 2 to 10 takes a test.
+/// C12.7: none of the refusals 2 to 10 and 19 takes a test.
 #[test]
 fn refusals_without_a_condition_take_no_tests() {
     for (number, file) in refused() {
@@ -71,7 +78,7 @@ fn covered(ranges: &[Bytes], q: Bytes) -> Bytes {
 /// The value of variable 0 and the tests.
 fn named_at(file: &[u8]) -> (i16, u64) {
     let verdict = verdict(file);
-    assert!(verdict.number >= 13);
+    assert!((13..=18).contains(&verdict.number));
     (verdict.values[0], verdict.tests)
 }
 

@@ -5,6 +5,7 @@ mod builder;
 mod conditions;
 mod corners;
 mod counting;
+mod division;
 mod examples;
 mod limits;
 mod refusals;

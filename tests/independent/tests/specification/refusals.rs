@@ -25,7 +25,7 @@ fn each_end_inside_b_is_early() {
 #[test]
 fn a_kind_that_fits_no_place() {
     for record in 0..21 {
-        for kind in [0x00, 0x08, 0x0f, 0x16, 0x1f, 0x2a, 0xff] {
+        for kind in [0x00, 0x08, 0x0f, 0x16, 0x17, 0x1a, 0x1f, 0x2a, 0xff] {
             let file = with_byte(examples::b(), record, 0, kind);
             assert_eq!(unnamed(&file), (3, record as u32));
         }

@@ -3,8 +3,8 @@
 use mathlib.Core.Path.{sym, _∙_}
 use mathlib.Core.Logic.{⊎-elim}
 use native.Mathlib.Omega.{arith}
-use Rattle.records.proofs.Laws.Kind.{arithmetic-form, indicator-form, literal-form, negation-form, connective-form, comparison-form}
-use Rattle.records.proofs.Laws.Kind.{unfit-below, unfit-between, unfit-above, signature-by, leaf-signature}
+use Rattle.records.proofs.Laws.Kind.{arithmetic-form, indicator-form, division-form, literal-form, negation-form, connective-form}
+use Rattle.records.proofs.Laws.Kind.{comparison-form, unfit-below, unfit-between, unfit-behind, unfit-above, signature-by, leaf-signature}
 use borrow.Author.Needs.{needs}
 use Rattle.records.proofs.kinds.signature_of.Statement.{statement}
 use Rattle.records.proofs.kinds.signature_of.Tie as tie
@@ -33,6 +33,9 @@ row-requires-7 c κs = search needs
 row-requires-8 : tie.Need-row-requires-8
 row-requires-8 c κs = search needs
 
+row-requires-9 : tie.Need-row-requires-9
+row-requires-9 c κs = search needs
+
 returns : tie.Need-returns
 returns c = c .row .ensures ∙ sym (signature-by _ (indicator-form (omega arith)))
 
@@ -46,20 +49,25 @@ returns-4 : tie.Need-returns-4
 returns-4 c = c .row4 .ensures ∙ sym (signature-by _ (arithmetic-form (omega arith) (omega arith)))
 
 returns-5 : tie.Need-returns-5
-returns-5 c = c .row5 .ensures ∙ sym (signature-by _ (literal-form (omega arith) (omega arith)))
+returns-5 c = c .row5 .ensures ∙ sym (signature-by _ (division-form (omega arith) (omega arith)))
 
 returns-6 : tie.Need-returns-6
-returns-6 c = c .row6 .ensures ∙ sym (signature-by _ (connective-form (omega arith) (omega arith)))
+returns-6 c = c .row6 .ensures ∙ sym (signature-by _ (literal-form (omega arith) (omega arith)))
 
 returns-7 : tie.Need-returns-7
-returns-7 c = c .row7 .ensures ∙ sym (signature-by _ (comparison-form (omega arith) (omega arith)))
+returns-7 c = c .row7 .ensures ∙ sym (signature-by _ (connective-form (omega arith) (omega arith)))
 
 returns-8 : tie.Need-returns-8
-returns-8 c =
-    c .row8 .ensures
+returns-8 c = c .row8 .ensures ∙ sym (signature-by _ (comparison-form (omega arith) (omega arith)))
+
+returns-9 : tie.Need-returns-9
+returns-9 c =
+    c .row9 .ensures
     ∙ sym
     (signature-by _
-    (⊎-elim (λ w. unfit-below (omega arith)) (⊎-elim (λ w. unfit-between (omega arith) (omega arith)) (λ w. unfit-above (omega arith)))
+    (⊎-elim (λ w. unfit-below (omega arith))
+    (⊎-elim (λ w. unfit-between (omega arith) (omega arith))
+    (⊎-elim (λ w. unfit-behind (omega arith) (omega arith)) (λ w. unfit-above (omega arith))))
     (c .before .if1 .came)))
 
 pub signature-of-spec : {M : Type 1} → statement M
@@ -74,6 +82,7 @@ signature-of-spec =
     row-requires-6
     row-requires-7
     row-requires-8
+    row-requires-9
     returns
     returns-2
     returns-3
@@ -81,4 +90,5 @@ signature-of-spec =
     returns-5
     returns-6
     returns-7
-    returns-8)
+    returns-8
+    returns-9)

@@ -5,25 +5,9 @@ use mathlib.Core.Path.{_≡_, refl}
 use mathlib.Core.List.{List, [], _∷_, _++_, map, flatten, List·Memᴰ}
 use Prim.Native.Nat.{ℕ}
 use lib.ListN.{take, drop, set, replicate}
-use Rattle.integers.specs.Bytes
-use Rattle.integers.specs.Quotient
-use Rattle.integers.specs.Interval as Ends
-use Rattle.integers.specs.Radix
-use Rattle.records.specs.Record
-use Rattle.records.specs.Kind
-use Rattle.records.specs.Walk
-use Rattle.sections.specs.Section
-use Rattle.parsing.specs.Outline
 use Rattle.shapes.specs.declared.Reading.{Reading}
-use Rattle.truths.specs.Search
-use Rattle.shapes.specs.Property
-use Rattle.shapes.specs.Edge as Shape
-use Rattle.states.specs.Number
-use Rattle.reading.specs.States
-use Rattle.intervals.specs.Interval
-use Rattle.reading.specs.Edge
-use Rattle.reading.specs.Read
 use Rattle.reading.specs.Read.{readOf}
+use Rattle.reading.proofs.Computing.{reading}
 use Rattle.reading.proofs.Files.{bytes, given, entry, range, start, transition, assignment, property, node, nodes, single, double}
 use Rattle.reading.proofs.Files.{constant, variable, plain, true, not, product, A, B, C, D, E, F, G, H, I, J, agree}
 
@@ -211,20 +195,7 @@ table = marked ++ divisions ++ choices
 -- ---- the theorem
 -- what reading answers, row by row, is the table's other column
 columns : map (λ (row : Row). readOf (flatten (row .0))) table ≡ map (λ (row : Row). row .1) table
-unfolding flatten Bytes.signed16 Ends.minZ Ends.maxZ Ends.around Ends.overEnds Ends.inBounds Radix.offsetOf
-    Record.kindIs Record.zerosOf Record.sameBytes Kind.within Kind.signatureOf
-    Walk.expressionFields Walk.inSequence Walk.operandsOf Walk.recordThen Walk.suits Walk.divisorThen Walk.walkOf
-    Section.variableFields Section.transitionFields Section.assignmentFields Section.propertyFields Section.edgeFields Section.itemsOf
-    Section.variablesOf Section.assignmentsOf Section.transitionOf Section.transitionsOf Section.expressionsOf Section.phasesOr
-    Section.nodesOf Section.repeatedOf Section.edgesOf
-    Outline.nodesParsed Outline.propertyParsed Outline.transitionsParsed Outline.startParsed Outline.parsedOf
-    Search.any Walk.refuseFirst Number.sizeOf States.sizeAt States.statesOf
-    Quotient.quotient Quotient.remainder Interval.divide Interval.dividedBy
-    Interval.leafOf Interval.combine Interval.joinOf Interval.ownOf Interval.byOperands Interval.analysisOf Interval.analysedFrom Interval.intervalsOf
-    Property.claimOf Property.propertyOf Section.phasesFit Section.edgeAt
-    Edge.transitionAt Edge.justOf Edge.conflictOf Edge.leadsOf Edge.fallsOf Edge.doubleRuleOf Edge.ruleOf Edge.rulesOf
-    Shape.doubleFrom Edge.doubledOf Edge.doublesOf
-    Read.stagesRead Read.readOf
+unfolding reading
 columns = refl
 
 pub examples : (row : Row) → List·Memᴰ row table → readOf (flatten (row .0)) ≡ row .1

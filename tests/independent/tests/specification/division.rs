@@ -1,6 +1,7 @@
 //! Quotients, remainders and their divisors: values, intervals, and refusal 19.
 
 use crate::builder::*;
+use crate::refusals::by_stages;
 use independent::{number, read, single, successor, truth};
 use independent::{File, Refusal, State, Tested, Truth};
 
@@ -522,17 +523,8 @@ fn repetitions_and_divisors() {
 #[test]
 fn divisors_before_states_intervals_and_edges() {
     let file = |divisor, high, factor, edges: &[Bytes]| {
-        let big = product(constant(1000), constant(factor));
-        unnamed(&join(&[
-            variable(0, high),
-            variable(0, 1024),
-            start(less(big, constant(0))),
-            idle(0),
-            chain(no(), yes()),
-            node(yes()),
-            node(less(remainder(value(0), constant(divisor)), constant(0))),
-            join(edges),
-        ]))
+        let truth = less(remainder(value(0), constant(divisor)), constant(0));
+        by_stages(truth, high, factor, edges)
     };
     let bad = [double_edge(0, 1, 0)];
     assert_eq!(file(0, 1024, 1001, &bad), (19, 19));

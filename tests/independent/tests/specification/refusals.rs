@@ -192,27 +192,30 @@ fn at_one_record_fields_are_tried_before_repeats() {
     assert_eq!(unnamed(&file(record(0x04, 0, 0, 0, 0))), (6, 9));
 }
 
+/// What a chain with that truth for node 1 is refused with: 7 if `high` is 1024, 8 if `factor` is
+/// 1001, 9 if an edge is double, as no transition is just, and 10 if none is.
+pub fn by_stages(truth: Bytes, high: i16, factor: i16, edges: &[Bytes]) -> (u8, u32) {
+    let big = product(constant(1000), constant(factor));
+    unnamed(&join(&[
+        variable(0, high),
+        variable(0, 1024),
+        start(less(big, constant(0))),
+        idle(0),
+        chain(no(), yes()),
+        node(yes()),
+        node(truth),
+        join(edges),
+    ]))
+}
+
 /// C11.1.
 #[test]
 fn seven_before_eight_before_nine_before_ten() {
-    let part = |high, factor, edges: &[Bytes]| {
-        let big = product(constant(1000), constant(factor));
-        join(&[
-            variable(0, high),
-            variable(0, 1024),
-            start(less(big, constant(0))),
-            idle(0),
-            chain(no(), yes()),
-            node(yes()),
-            node(no()),
-            join(edges),
-        ])
-    };
     let bad = [double_edge(0, 1, 0)];
-    assert_eq!(unnamed(&part(1024, 1001, &bad)), (7, 1));
-    assert_eq!(unnamed(&part(3, 1001, &bad)), (8, 4));
-    assert_eq!(unnamed(&part(3, 1000, &bad)).0, 9);
-    assert_eq!(unnamed(&part(3, 1000, &[])), (10, 1));
+    assert_eq!(by_stages(no(), 1024, 1001, &bad), (7, 1));
+    assert_eq!(by_stages(no(), 3, 1001, &bad), (8, 4));
+    assert_eq!(by_stages(no(), 3, 1000, &bad).0, 9);
+    assert_eq!(by_stages(no(), 3, 1000, &[]), (10, 1));
 }
 
 /// C10.7.

@@ -1,4 +1,4 @@
-"""The conditions of a file for an SMT solver, and what z3 says of them.
+"""The start and the conditions of a file for an SMT solver, and what z3 says of them.
 
 >>> v = vd.Variable(0, "v", -2, 2)
 >>> term((v * 2 == -1) & ~(v < 0))
@@ -39,10 +39,12 @@ def term(e):
 
 
 def script(file, conditions):
-    """Declares the file's variables, nodes and guards, then asks of each of so many conditions, the
-    first ones, whether there is a state that breaks it."""
+    """Declares the file's variables, nodes and guards, then asks whether there is a state that
+    satisfies the start, and of each of so many conditions, the first ones, whether there is a state
+    that breaks it."""
     reading = vd.Reading(file)
     script = Script(reading)
+    script.ask(term(reading.start))
     for number, node, transition in list(vd.conditions(reading))[:conditions]:
         script.ask(script.broken(number, node, transition))
     return "\n".join(script.lines) + "\n"
@@ -124,8 +126,8 @@ def installed():
 
 
 def asked(file, conditions):
-    """z3's answers on that many conditions, and the least milliseconds of processor time that it takes
-    in three runs; no answers if it takes too long."""
+    """z3's answers on the start and that many conditions, and the least milliseconds of processor
+    time that it takes in three runs; no answers if it takes too long."""
     text, least = script(file, conditions), None
     for _ in range(3):
         answers, milliseconds = _run(text)

@@ -674,6 +674,7 @@ MEANINGS = {
     17: "step is broken: a transition leaves its node, not by an edge",
     18: "enabling is broken: a node does not imply its double transition enabled",
     19: "the divisor of a quotient or remainder is not a constant above 0",
+    20: "no state satisfies the start",
 }
 # Those that end a reading.
 UNREAD = (2, 3, 4, 5, 6, 19)
@@ -838,6 +839,9 @@ def _place(report, reading, names):
     if report.number == 10 and 0 < at < len(reading.nodes) and reading.property == CHAIN:
         if not any(e.double and e.source == at for e in reading.edges):
             return "node %d: %s" % (at, names.expression(reading.nodes[at]))
+    if report.number == 20 and report.hex() == refused(20).hex():
+        # that no state satisfies it is not tried here: there may be a million
+        return "start: %s" % names.expression(reading.start)
     raise Mismatch("nothing at this place of the file meets refusal %d" % report.number)
 
 

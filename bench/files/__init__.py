@@ -8,10 +8,11 @@ from . import adversarial, drawn, extreme, systems
 
 EXAMPLES = Path(__file__).resolve().parents[2] / "examples"
 
-# `broken` is the condition that is broken and the number of the state, None for an accepted file, or
-# ANY; `slow` says that testing every condition at every state takes over 10 seconds.
+# `broken` is the condition that is broken and the number of the state, None for an accepted file,
+# NO_START for one that is refused with that number, or ANY; `slow` says that testing every condition
+# at every state takes over 10 seconds.
 File = namedtuple("File", "name bytes broken slow")
-ANY = object()
+ANY, NO_START = object(), 20
 
 
 def _file(name, content, broken=None, slow=False):
@@ -28,6 +29,7 @@ def examples():
 
 def models():
     yield _file("pages-one-node", systems.pages_one_node(), (55, 787572), True)
+    yield _file("pages-no-start", systems.pages_no_start(), NO_START)
     yield _file("clocks", systems.clocks())
     yield _file("clocks-broken", systems.clocks(broken=True), (5, 980990))
     yield _file("philosophers", systems.philosophers())
@@ -74,6 +76,8 @@ def adversaries():
         yield _file("giant-%d" % transitions, adversarial.giant(transitions))
     for transitions in (1, 16):
         yield _file("hostile-%d" % transitions, adversarial.hostile(transitions))
+    yield _file("start-even-and-odd", adversarial.even_and_odd(), NO_START)
+    yield _file("start-last", adversarial.even_and_odd(last=True))
 
 
 def most(size):

@@ -1,7 +1,7 @@
 """Files made against a check of whole boxes of states: intervals decide their conditions only at
 single states, or evaluating a box costs much more than evaluating a state."""
 
-from vd import AND, IFF, OR, Diagram, System, Truth, all_of, false, invariance, total, true
+from vd import AND, IFF, OR, Diagram, System, Truth, all_of, invariance, total, true
 
 # Twelve variables, so many of them in 0..3 and the rest in 0..1.
 SMALL, MIDDLE, LARGE = 0, 4, 8
@@ -142,20 +142,32 @@ def ring_order():
 
 def giant(transitions):
     """A conjunct that is never true, 2 v = 1, and then one of 2,047 records that is undecided where
-    the first is."""
+    the first is. Beside them a value that no step changes, so that there is a start."""
     s = twelve(MIDDLE)
-    last = s.variables[11]
+    last, here = s.variables[11], s.variables[0] == 0
     never = 2 * last == 1
     huge = tree(9, lambda at: last == (at + 1) % 2)
-    return diagram(s, Truth(AND, never, parity(s.variables)),
-                   [(true, flips(s, MIDDLE, t)) for t in range(transitions)], false,
-                   [Truth(AND, never, huge)])
+    return diagram(s, Truth(OR, Truth(AND, never, parity(s.variables)), here),
+                   [(true, flips(s, MIDDLE, t)) for t in range(transitions)], here,
+                   [Truth(OR, Truth(AND, never, huge), here)])
 
 
 def hostile(transitions):
     """A conjunct that is never true, which no interval tells, and then one of 2,047 records that is
-    undecided on all boxes at the diagonal."""
+    undecided on all boxes at the diagonal. A start as in `giant`."""
     s, x, y = square()
+    here = y == 0
     never = (x + y) * (x - y) + 1 == x * x - y * y
     huge = tree(9, lambda at: x == y if at % 2 else x <= y)
-    return diagram(s, never, [(true, flip(s, 0))] * transitions, false, [Truth(AND, never, huge)])
+    return diagram(s, Truth(OR, never, here), [(true, flip(s, 0))] * transitions, here,
+                   [Truth(OR, Truth(AND, never, huge), here)])
+
+
+def even_and_odd(last=False):
+    """A start of even and of odd parity, which no state has and no interval tells; or one that the
+    last state satisfies, and no other."""
+    s = twelve(LARGE)
+    odd = parity(s.variables[::-1], True)
+    if last:
+        odd = Truth(OR, odd, nested(AND, [v == v.high for v in s.variables]))
+    return diagram(s, Truth(AND, parity(s.variables), odd), [], true, [true])

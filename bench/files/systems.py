@@ -22,6 +22,13 @@ def pages_one_node():
     return d
 
 
+def pages_no_start():
+    """The six editors of pages-largest; the page is free at the start, and the first editor's."""
+    s = Pages(6, 3, fair=False)
+    s.start(all_of(s.initial, s.lock == s.mine(0)))
+    return names(s)
+
+
 def clocks(broken=False):
     """Two clocks that count to 999 and drift at most 10 apart. A broken second one, when the first
     stands at 980, ticks once too often: the last condition is broken, at state 980,990."""

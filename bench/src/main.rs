@@ -1,6 +1,6 @@
 //! Measures checks of one file, for bench/run, and prints numbers only.
 //!
-//!     bench time FILE ENGINE ..    number, condition or total, states, conditions, tests, then the milliseconds of each engine
+//!     bench time FILE ENGINE ..    number, condition, total or place, tests, then the milliseconds of each engine
 //!     bench stack FILE             number, bytes of stack for the check, and for the single test of the last condition at the last state
 
 mod engines;
@@ -36,13 +36,8 @@ fn time(file: &[u8], names: &[&str]) {
             .expect(name)
     };
     let engines: Vec<&Engine> = names.iter().map(named).collect();
-    let read = independent::read(file).expect("a readable file");
     let (verdict, seconds) = timing::compared(&engines, file);
-    let (states, conditions) = (read.states(), read.conditions().len());
-    print!(
-        "{} {} {states} {conditions} {}",
-        verdict.number, verdict.at, verdict.tests
-    );
+    print!("{} {} {}", verdict.number, verdict.at, verdict.tests);
     for time in seconds {
         print!(" {:.6}", time * 1e3);
     }

@@ -52,6 +52,19 @@ def line_marks(last=1040):
 
 TWO = dict(editors=2, speakers=2, fair=False)
 
+
+def at_work(join=any_of, held=True):
+    """Never do two editors work on the page at once. Start and node are the same three cases,
+    joined: the page is free, or one of the editors has it."""
+    s = pages.Pages(**TWO, held=held)
+    cases = join(all_of(s.free()), *(all_of(s.lock == s.mine(i), pc > pages.WAITS, s.out(i))
+                                     for i, pc in enumerate(s.pc)))
+    s.start(cases)
+    d = Diagram(s, invariance(~all_of(pc > pages.WAITS for pc in s.pc)))
+    d.node(cases)
+    return d
+
+
 EXAMPLES = [
     Example("refused-02-length", """
         The file b with a line feed after its last record, as a text editor or a transfer in text
@@ -172,4 +185,18 @@ EXAMPLES = [
         and how large it can be is seen from the file. ring-sizes says the same by a remainder for
         each size.
         """, ring.sizes(by_size=True), refused(19, 17)),
+    Example("refused-20-start", """
+        Two editors, of whom each takes the page without looking whether it is free, as in
+        refused-17-lock, and the claim that they never both work on it. Work may begin where the
+        page is free, where editor 0 has it, or where editor 1 has it; but the three cases are
+        joined by "and" where "or" was meant, in the start and in the one node, which is the same.
+        The checker refuses with 20: the page can't be free and an editor's at once, so no state
+        satisfies the start.
+
+        Every condition of the diagram holds, for each asks something of states that satisfy the
+        start or the node, and there are none. But an invariance is a claim about runs from a
+        starting state, and here it would be one about no run. Of these rules it is plainly false:
+        with "or" in both places the checker refuses with 17, as editor 1 has the page, and editor
+        0, who waits, takes it as well. With "or", and the lock looked at, it accepts.
+        """, at_work(join=all_of, held=False), refused(20)),
 ]

@@ -1,7 +1,7 @@
 //! The verification diagram checker for Rust: a file of 8-byte records, with a transition system, a claim about it and a diagram, is accepted
-//! exactly if every verification condition of the diagram is true at every state; then what the file claims is true of every run. The code behind
-//! these functions is proved in Rattle; this crate only lends it slices. It needs little stack: 45 KiB at most, as measured, so a thread with 64 KiB is
-//! enough.
+//! exactly if a state satisfies its start and every verification condition of the diagram is true at every state; then what the file claims is true
+//! of every run, and there is one from a starting state. The code behind these functions is proved in Rattle; this crate only lends it slices. It
+//! needs little stack: 45 KiB at most, as measured, so a thread with 64 KiB is enough.
 //!
 //! C12.1 and the like are clauses of docs/SPECIFICATION.md, which the examples would see broken. A system with one variable in 0..2 that counts up,
 //! and the claim that it stays at most 2:
@@ -67,7 +67,7 @@ pub struct Verdict {
 /// What a verdict says.
 #[derive(Clone, Copy, Debug, PartialEq, Eq)]
 pub enum Outcome {
-    /// Every condition is true at every state.
+    /// Every condition is true at every state, and there is a starting state.
     Accepted { conditions: u32 },
     /// The lowest broken condition, with the lowest-numbered state that breaks it. The number tells its kind: 13 start, 14 entry, 15 cover,
     /// 16 range, 17 step, 18 enabling.
@@ -82,7 +82,7 @@ pub enum Outcome {
     Refused(Refusal),
 }
 
-/// A refusal before any condition, 1 to 12 or 19, with its number and its place: a record, a variable or a node, by the number.
+/// A refusal before any condition, 1 to 12, 19 or 20, with its number and its place: a record, a variable or a node, by the number.
 #[derive(Clone, Copy, Debug, PartialEq, Eq)]
 pub struct Refusal {
     pub number: u8,
@@ -135,13 +135,23 @@ pub fn check_into(file: &[u8], report: &mut [u8]) -> Verdict {
 /// let refusal = vd::single(&file, 0, 0).unwrap_err();
 /// assert_eq!(refusal.to_string(), "refused with 19: the divisor of a quotient or remainder is not a constant above 0 (record 5)");
 /// assert_eq!(vd::check(&file).outcome(), vd::Outcome::Refused(refusal));
+///
+/// // C10.20, C12.7, likewise: a variable, a start that is false, an invariance of true and a node true.
+/// let mut file = Vec::new();
+/// for [kind, a] in [[0x01, 0], [0x02, 0], [0x21, 0], [0x05, 1], [0x20, 0], [0x06, 0], [0x20, 0]] {
+///     file.extend([kind, a, 0, 0, 0, 0, 0, 0]);
+/// }
+/// let refusal = vd::single(&file, 0, 0).unwrap_err();
+/// assert_eq!(refusal.to_string(), "refused with 20: no state satisfies the start");
+/// assert_eq!(vd::check(&file).outcome(), vd::Outcome::Refused(refusal));
+/// assert_eq!(vd::check(&file).tests, 0);
 /// ```
 pub fn single(file: &[u8], condition: usize, state: usize) -> Result<bool, Refusal> {
     // SAFETY: pointer and length are those of a slice, which the library only reads.
     let tested = unsafe { vd_single(file.as_ptr(), file.len(), condition, state) };
     match tested.number {
         0 => Ok(tested.holds),
-        // The numbers end at 19, and a place is at most a record count: a file of over 32,768 bytes has place 0.
+        // The numbers end at 20, and a place is at most a record count: a file of over 32,768 bytes has place 0.
         number => Err(Refusal {
             number: number as u8,
             place: tested.place as u32,
@@ -247,6 +257,7 @@ pub fn meaning(number: u8) -> &'static str {
         17 => "step",
         18 => "enabling",
         19 => "the divisor of a quotient or remainder is not a constant above 0",
+        20 => "no state satisfies the start",
         _ => "no number of refusal",
     }
 }

@@ -2,7 +2,6 @@
 -- Assumes nothing.
 use Rattle.truths.specs.Truth
 use Rattle.truths.specs.Search
-use Rattle.states.specs.Number
 use Rattle.conditions.specs.Edges
 use Rattle.conditions.specs.Condition
 use Rattle.testing.specs.Holding
@@ -13,12 +12,11 @@ use Rattle.deciding.specs.Decision
 
 -- `unfolding deciding` unfolds all that stands here
 unfoldable pub deciding : Unit {0}
-unfolding computing Number.countOf Number.stateOf Number.numberOf
-    Search.firstFailingFrom Search.firstFailing Edges.carries Edges.isDouble
+unfolding computing Search.firstFailingFrom Search.firstFailing Edges.carries Edges.isDouble
     Condition.each Condition.movesOf Condition.openingOf Condition.coveredOf Condition.conditionsOf Condition.totalOf Condition.conditionAt
     Condition.nameOf
     Truth.implies System.isEnabled Holding.someNode Holding.someTarget Holding.stepLeads Holding.conditionHolds
-    Verdict.stateAt Verdict.stateNumber Verdict.breakingOf Verdict.isTrue Verdict.brokenOf
+    Verdict.breakingOf Verdict.isTrue Verdict.brokenOf
     Verdict.brokenAt Verdict.testsOf Verdict.judgedOf Verdict.verdictOf Verdict.checkOf
     Decision.upToFailing Decision.testsInOrder Decision.testsMade
 deciding = tt

@@ -12,11 +12,10 @@ use native.Mathlib.Omega.{arith}
 use lib.Dec.{lit≤}
 use lib.ListN.{set}
 use Rattle.diagrams.specs.declared.Diagram.{Diagram}
-use Rattle.shapes.specs.declared.Outline.{Outline}
 use Rattle.shapes.specs.declared.Reading.{Reading}
 use Rattle.diagrams.specs.Diagram.{foundOf, diagramOf, Loaded}
 use Rattle.diagrams.proofs.Laws.Diagram.{diagram-loaded}
-use Rattle.diagrams.proofs.Files.{A, B, constant, plain, true}
+use Rattle.diagrams.proofs.Files.{A, B, constant, plain, true, oB}
 use Rattle.conditions.specs.Condition.{conditionAt, refusalNumber, nodeNumber, transitionNumber}
 use Rattle.conditions.specs.declared.Condition.the-variants.{Start}
 use Rattle.diagrams.proofs.Values.{v, state}
@@ -26,14 +25,11 @@ use Rattle.deciding.proofs.Computing.{deciding}
 use Rattle.deciding.proofs.Laws.Decision.{judges, accepted, named-once}
 
 -- A, B and what is made of B have the same outline
-abbrev outline : Outline
-outline = record { vars = 1; transition = 5; transitions = 1; property = 13; node = 17; nodes = 1; edge = 21; edges = 0 }
-
 abbrev diagram : List ℕ → Diagram
-diagram file = diagramOf file outline
+diagram file = diagramOf file oB
 
-loaded : (file : List ℕ) → foundOf file ≡ Reading.Found outline → Loaded file (diagram file)
-loaded file e = diagram-loaded file outline e
+loaded : (file : List ℕ) → foundOf file ≡ Reading.Found oB → Loaded file (diagram file)
+loaded file e = diagram-loaded file oB e
 
 -- ---- refused
 -- start (condition 0) is broken at v = 1 and v = 2, step (condition 3) at v = 0

@@ -7,12 +7,12 @@ use Prim.Native.Nat.{ℕ, _<_, _≤_}
 use lib.ListN.{length}
 use lib.IntN.{ℤ}
 use Rattle.diagrams.specs.declared.Diagram.{Diagram}
-use Rattle.diagrams.specs.Diagram.{Readable, State}
+use Rattle.diagrams.specs.Diagram.{State, stateAt, stateNumber}
+use Rattle.diagrams.specs.Start.{Readable}
 use Rattle.conditions.specs.Condition.{each, totalOf, conditionAt, Listed, refusalNumber, nodeNumber, transitionNumber}
 use Rattle.conditions.specs.declared.Condition.{Condition}
 use Rattle.testing.specs.Holding.{conditionHolds}
 use Rattle.report.specs.declared.Verdict.{Verdict}
-use Rattle.verdicts.specs.Verdict.{stateAt, stateNumber}
 
 -- for C8.14: a condition is true: it holds in every state, whatever its values are
 abbrev pub Everywhere : List ℕ → Diagram → Condition → Type 0

@@ -1,3 +1,4 @@
 pub mod Diagram
+pub mod Start
 pub mod System
 pub mod Truth

@@ -3,3 +3,4 @@ mod Steps
 pub mod Files
 pub mod Computing
 pub mod Values
+mod Examples

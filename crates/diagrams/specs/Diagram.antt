@@ -1,4 +1,4 @@
--- The diagram of a file, with its system: the states, and where the transitions and the parts of the diagram stand; and which files are readable.
+-- The diagram of a file, with its system: the states, and where the transitions and the parts of the diagram stand.
 use mathlib.Core.Path.{_≡_}
 use mathlib.Core.List.{List}
 use Prim.Native.Nat.{ℕ, _+_}
@@ -13,7 +13,7 @@ use Rattle.shapes.specs.declared.Reading.{Reading}
 use Rattle.reading.specs.Read.{readOf}
 use Rattle.states.specs.State.{Within}
 use Rattle.ranges.specs.Range.{lowsOf, highsOf}
-use Rattle.states.specs.Number.{countOf}
+use Rattle.states.specs.Number.{countOf, stateOf, numberOf}
 use Rattle.diagrams.specs.declared.Diagram.{Diagram}
 
 -- for C11.6: what reading finds: the parts of a file, or the first refusal of 2 to 10 and 19
@@ -49,13 +49,19 @@ pub record Loaded (file : List ℕ) (g : Diagram) : Type 0 where
   pub found : foundOf file ≡ Reading.Found outline
   pub is : g ≡ diagramOf file outline
 
--- C11.6: none of the refusals 2 to 10 and 19 meets the file, and g is its diagram
-unfoldable pub Readable : List ℕ → Diagram → Type 0
-Readable file g = Loaded file g
-
+-- ---- states
 -- C4.1: a value for each variable, in its range
 abbrev pub State : Diagram → List ℤ → Type 0
 State g state = Within (g .low) (g .high) state
+
+-- C4.4: the state with a number, and the number of a state
+unfoldable pub stateAt : Diagram → ℕ → List ℤ
+stateAt g n = stateOf (g .low) (g .high) n
+
+unfoldable pub stateNumber : Diagram → List ℤ → ℕ
+stateNumber g state = numberOf (g .low) (g .high) state
+
+-- ---- edges
 
 -- C1.14: edge e
 unfoldable pub edgeOf : List ℕ → Diagram → ℕ → Edge

@@ -6,8 +6,7 @@ use mathlib.Core.List.{List, flatten}
 use Prim.Native.Nat.{ℕ, _≤_}
 use lib.Dec.{T}
 use Rattle.diagrams.specs.declared.Diagram.{Diagram}
-use Rattle.diagrams.proofs.Files.{B, D, H}
-use Rattle.shapes.specs.declared.Outline.{Outline}
+use Rattle.diagrams.proofs.Files.{B, D, H, oB, oD, oH}
 use Rattle.diagrams.specs.Diagram.{diagramOf, State}
 use Rattle.runs.specs.Run.{enabled, Successor}
 use Rattle.soundness.specs.System.{systemOf}
@@ -25,26 +24,17 @@ pub record Counter (file : List ℕ) (g : Diagram) : Type 0 where
 abbrev pub b : List ℕ
 b = flatten B
 
-abbrev pub oB : Outline
-oB = record { vars = 1; transition = 5; transitions = 1; property = 13; node = 17; nodes = 1; edge = 21; edges = 0 }
-
 abbrev pub gB : Diagram
 gB = diagramOf b oB
 
 abbrev pub d : List ℕ
 d = flatten D
 
-abbrev pub oD : Outline
-oD = record { vars = 1; transition = 5; transitions = 1; property = 13; node = 18; nodes = 3; edge = 30; edges = 2 }
-
 abbrev pub gD : Diagram
 gD = diagramOf d oD
 
 abbrev pub h : List ℕ
 h = flatten H
-
-abbrev pub oH : Outline
-oH = record { vars = 1; transition = 5; transitions = 1; property = 13; node = 26; nodes = 3; edge = 38; edges = 2 }
 
 abbrev pub gH : Diagram
 gH = diagramOf h oH

@@ -122,8 +122,39 @@ rings =
     (ring (plain 0x19 ∷ onward ++ (variable 0 ∷ [])) ++ staysInside, 0x13ffff000c000000, 0, 0) ∷
     []
 
+-- C10.20: one of the files A to J with another start
+abbrev starting : List (List ℕ) → List (List ℕ) → List (List ℕ)
+starting truth file = take 2 file ++ truth ++ drop 5 file
+
+-- v is 3, which no state has; a number is odd, by its remainder, which boxes see at single states only
+abbrev beyond : List (List ℕ)
+beyond = is 0 3
+
+abbrev odd : List (List ℕ) → List (List ℕ)
+odd x = plain 0x27 ∷ plain 0x19 ∷ x ++ (constant 2 ∷ constant 1 ∷ [])
+
+abbrev starts : List Row
+starts =
+    -- no starting state: of B, whose conditions all hold, in several ways; in a chain, and in a wait-for
+    (starting (plain 0x21 ∷ []) B, 0x14ffff0000000000, 0, 0) ∷
+    (starting beyond B, 0x14ffff0000000000, 0, 0) ∷
+    (starting (odd (plain 0x12 ∷ variable 0 ∷ variable 0 ∷ [])) B, 0x14ffff0000000000, 0, 0) ∷
+    (starting beyond D, 0x14ffff0000000000, 0, 0) ∷
+    (starting beyond H, 0x14ffff0000000000, 0, 0) ∷
+    -- one starting state is enough: the second, by its value and as the odd one; the last, of an invariance and of a chain
+    (starting (is 0 1) B, 0x00ffff0004000000, 0, 12) ∷
+    (starting (odd (variable 0 ∷ [])) B, 0x00ffff0004000000, 0, 12) ∷
+    (starting (is 0 2) B, 0x00ffff0004000000, 0, 12) ∷
+    (starting (is 0 2) D, 0x00ffff0008000000, 0, 24) ∷
+    -- C11.1: before any condition, A's step and E's; behind 9 and 10, F's and G's
+    (starting beyond A, 0x14ffff0000000000, 0, 0) ∷
+    (starting beyond E, 0x14ffff0000000000, 0, 0) ∷
+    (starting beyond F, 0x09ffff001e000000, 0, 0) ∷
+    (starting beyond G, 0x0affff0002000000, 0, 0) ∷
+    []
+
 abbrev table : List Row
-table = marked ++ broken ++ rings
+table = marked ++ broken ++ rings ++ starts
 
 -- ---- lists of conditions (C8.3 to C8.6)
 abbrev listed : List ℕ → Reading → List Condition
@@ -167,6 +198,13 @@ singles =
     ((A, 3, 3), Single.Refused 12 0) ∷
     ((A, 4, 3), Single.Refused 11 0) ∷
     ((F, 99, 99), Single.Refused 9 30) ∷
+    -- C10.20, C13.2: without a starting state it is 20, whatever the numbers; 10 comes before
+    ((starting beyond B, 0, 0), Single.Refused 20 0) ∷
+    ((starting beyond A, 4, 0), Single.Refused 20 0) ∷
+    ((starting beyond A, 3, 3), Single.Refused 20 0) ∷
+    ((starting beyond D, 99, 99), Single.Refused 20 0) ∷
+    ((starting beyond G, 99, 99), Single.Refused 10 2) ∷
+    ((starting (is 0 2) A, 0, 2), Single.Fails) ∷
     []
 
 -- ---- what antt computes

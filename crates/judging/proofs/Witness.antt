@@ -24,8 +24,9 @@ use Rattle.verdicts.specs.Verdict.{checkOf}
 use Rattle.runs.specs.Run.{Run, finite, endless, Position, at, Next, IsRun, DisabledOrTaken, Just, KJust}
 use Rattle.runs.specs.Claim.{Waiting}
 use Rattle.soundness.specs.System.{systemOf}
+use Rattle.diagrams.proofs.Files.{oB, oD, oH}
 use Rattle.diagrams.proofs.Values.{v}
-use Rattle.judging.proofs.Counter.{Counter, b, oB, gB, d, oD, gD, h, oH, gH, B-counts, D-counts, H-counts}
+use Rattle.judging.proofs.Counter.{Counter, b, gB, d, gD, h, gH, B-counts, D-counts, H-counts}
 use Rattle.judging.proofs.Examples.{reporting}
 
 -- ---- runs of the counter: 0 0 1 1 2, and then 2 for ever or to the end

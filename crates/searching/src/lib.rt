@@ -1,5 +1,7 @@
 // Whether a condition holds at every state, by whole boxes of them: a box for which that is not seen at once is halved, a single state is tested.
 pub mod budget;
+pub mod scan;
+pub mod start;
 
 use boxes::Box;
 use boxes::choice;

@@ -5,11 +5,12 @@ use Prim.Native.Nat.{ℕ, _-_}
 use lib.IntN.{ℤ}
 use Rattle.shapes.specs.declared.Claim.{Claim as Kind}
 use Rattle.diagrams.specs.declared.Diagram.{Diagram}
-use Rattle.diagrams.specs.Diagram.{Readable, State}
+use Rattle.diagrams.specs.Diagram.{State}
+use Rattle.diagrams.specs.Start.{Readable}
 use Rattle.diagrams.specs.Truth.{startHolds, nodeHolds, pHolds, qHolds}
 use Rattle.diagrams.specs.System.{justOf, guardHolds, valuesFit, nextState}
 use Rattle.runs.specs.Run.{System}
-use Rattle.runs.specs.Claim.{Invariance, WaitFor, Chain, InRange}
+use Rattle.runs.specs.Claim.{Invariance, WaitFor, Chain, InRange, Starts}
 
 -- for C7.9: the file's states, start and transitions
 abbrev pub systemOf : List ℕ → Diagram → System
@@ -34,8 +35,9 @@ Claimed file g Kind.Chain =
     Chain (systemOf file g) (g .nodes) (nodeHolds file g) (pHolds file g) (qHolds file g 0) × InRange (systemOf file g) 1 (g .nodes) (nodeHolds file g)
 Claimed file g Kind.Unknown = ⊥
 
--- C12.11: the file is readable, and what it claims is true
+-- C12.11: the file is readable, and what it claims is true; each file claims a start (C7.9, C7.10)
 pub record Claim (file : List ℕ) : Type 0 where
   pub diagram : Diagram
   pub readable : Readable file diagram
   pub claimed : Claimed file diagram (diagram .claim)
+  pub starts : Starts (systemOf file diagram)

@@ -71,6 +71,10 @@ testOf file g (Range n t) = preparedOf (assertionAt g n) Conclusion.ValuesInRang
 testOf file g (Step n t) = preparedOf (assertionAt g n) Conclusion.Reached (stepAt g t) (someOf g (marksOf file g n t (not (isDouble file g n t))))
 testOf file g (Enabling n t) = preparedOf (assertionAt g n) Conclusion.Enabled (stepAt g t) (targetsOf [])
 
+-- the test that the truth at a place is false: it implies one of no targets
+unfoldable pub denialOf : ℕ → Test
+denialOf at = preparedOf at Conclusion.SomeTarget 0 (targetsOf [])
+
 -- ---- what a test says, of a state and of a box
 -- one of the truths at the places listed holds
 unfoldable pub someHolds : List ℕ → List ℕ → List ℤ → Bool

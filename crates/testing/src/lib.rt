@@ -15,7 +15,7 @@ ghost use lib.ListN.{getD};
 ghost use Rattle.diagrams.specs.Diagram.{Loaded};
 ghost use Rattle.conditions.specs.Edges.{carries};
 ghost use Rattle.conditions.specs.Condition.{Listed};
-ghost use Rattle.testing.specs.Testing.{marksOf, targetsOf, chosenOf, preparedOf, testOf};
+ghost use Rattle.testing.specs.Testing.{marksOf, targetsOf, chosenOf, preparedOf, denialOf, testOf};
 
 // What a condition's premise must imply: that one of the targets is true; that a true guard goes with values in range; that a step leads to one of
 // the targets; that the transition is enabled.
@@ -121,6 +121,14 @@ fn prepared(premise: usize, conclusion: Conclusion, transition: usize, targets: 
         targets: places,
         count: targets.count,
     }
+}
+
+// The test that the truth at a place is false.
+pub fn denial(place: usize) -> Test
+    ensures { λ r. ⌜ r ≡ denialOf place ⌝ }
+{
+    let targets = none();
+    prepared(place, Conclusion::SomeTarget, 0, targets)
 }
 
 // The test of a condition.

@@ -7,22 +7,14 @@ use lib.Dec.{ltb, leb}
 use lib.IntN.{ℤ, pos}
 use Rattle.diagrams.specs.declared.Diagram.{Diagram}
 use Rattle.shapes.specs.Reading.{andFound}
-use Rattle.diagrams.specs.Diagram.{foundOf, diagramOf}
-use Rattle.states.specs.Number.{stateOf, numberOf}
+use Rattle.diagrams.specs.Diagram.{foundOf, diagramOf, stateAt}
+use Rattle.diagrams.specs.Start.{andStart}
 use Rattle.truths.specs.Search.{firstFailing}
 use Rattle.conditions.specs.Condition.{totalOf, conditionAt, refusalNumber, nodeNumber, transitionNumber}
 use Rattle.testing.specs.Holding.{conditionHolds}
 use Rattle.conditions.specs.declared.Condition.{Condition}
 use Rattle.report.specs.declared.Verdict.{Verdict}
 use Rattle.verdicts.specs.declared.Single.{Single}
-
--- ---- states by number
--- C4.4: the state with a number, and the number of a state
-unfoldable pub stateAt : Diagram → ℕ → List ℤ
-stateAt g n = stateOf (g .low) (g .high) n
-
-unfoldable pub stateNumber : Diagram → List ℤ → ℕ
-stateNumber g state = numberOf (g .low) (g .high) state
 
 -- ---- verdicts
 -- C12.6: no condition is named
@@ -62,13 +54,17 @@ judgedOf file g =
     (namedOf (conditionAt file g (brokenOf file g)) (brokenOf file g) (stateAt g (brokenAt file g)) (testsOf file g))
     (unnamedOf 0 (totalOf file g) (testsOf file g))
 
--- C11.1, C12.7: a refusal of reading comes before any condition, and costs no tests; its place is `at`
+-- C12.6, C12.7: a refusal without a condition costs no tests; its place is `at`
+abbrev pub refusedOf : ℕ → ℕ → Verdict
+refusedOf number place = unnamedOf number place 0
+
+-- C11.1: the refusals of reading come first, then 20, then the conditions
 unfoldable pub verdictOf : List ℕ → Verdict
-verdictOf file = andFound (λ number place. unnamedOf number place 0) (foundOf file) λ o. judgedOf file (diagramOf file o)
+verdictOf file = andFound refusedOf (foundOf file) λ o. let g = diagramOf file o in andStart refusedOf file g (judgedOf file g)
 
 -- C12.1, C10.1, C11.1: the check of a file, with a report buffer of `room` bytes
 unfoldable pub checkOf : List ℕ → ℕ → Verdict
-checkOf file room = cond (ltb room 32) (unnamedOf 1 0 0) (verdictOf file)
+checkOf file room = cond (ltb room 32) (refusedOf 1 0) (verdictOf file)
 
 -- ---- the single test
 -- C10.11, C10.12, C13.3: of a readable file
@@ -78,6 +74,7 @@ singleJudged file g condition state =
     (cond (leb (g .states) state) (Single.Refused 12 0)
     (cond (conditionHolds file g (conditionAt file g condition) (stateAt g state)) Single.Holds Single.Fails))
 
--- C13.1, C13.2: a refusal of reading comes before both
+-- C13.1, C13.2: the refusals of reading and 20 come before both
 unfoldable pub singleOf : List ℕ → ℕ → ℕ → Single
-singleOf file condition state = andFound Single.Refused (foundOf file) λ o. singleJudged file (diagramOf file o) condition state
+singleOf file condition state =
+    andFound Single.Refused (foundOf file) λ o. let g = diagramOf file o in andStart Single.Refused file g (singleJudged file g condition state)

@@ -13,9 +13,10 @@ use expressions::holds;
 use expressions::spans::spans_of;
 use report::Verdict;
 use searching::Search;
-use searching::Skipped;
-use searching::budget::budget;
-use searching::skip;
+use searching::scan::Scan;
+use searching::scan::first_ask;
+use searching::scan::onward;
+use searching::start::starts;
 use shapes::Reading;
 use states::advance;
 use states::state_of;
@@ -27,7 +28,9 @@ ghost use Prim.Native.Nat.{_≤_};
 ghost use Rattle.diagrams.specs.Diagram.{Loaded};
 ghost use Rattle.conditions.specs.Condition.{nodeNumber, transitionNumber};
 ghost use Rattle.expressions.specs.Spans.{Spans};
-ghost use Rattle.verdicts.specs.Verdict.{unnamedOf, namedOf, judgedOf, verdictOf, singleJudged, singleOf};
+ghost use Rattle.diagrams.specs.Start.{andStart};
+ghost use Rattle.verdicts.specs.Verdict.{unnamedOf, namedOf, judgedOf, refusedOf, verdictOf, singleJudged, singleOf};
+ghost use Rattle.verdicts.specs.declared.Single.{Single};
 
 // What a single test answers: the refusal that meets it, with its number and its place; or whether the condition holds at the state.
 pub enum Single {
@@ -66,8 +69,7 @@ fn named(condition: Condition, number: u32, state: [i16; 12], tests: u64) -> Ver
 }
 
 // The verdict on a readable file, by one condition after the other up to the first break. Each is prepared once, then tested at one state after the
-// other. By boxes, whole boxes of states are asked on the way which states may be skipped: after one state by 64 of them at most, after 64 states by 64
-// times as many, and so on up to what is fair. So a break at one of the first states costs little, and so does a condition that boxes don't decide.
+// other. By boxes, whole boxes of states are asked on the way which states may be skipped.
 fn first_break(file: &[u8], diagram: Diagram, spans: &[u16; 4096], by_boxes: bool) -> Verdict
     requires loaded { ⌜ Loaded (now file) diagram ⌝ }
     requires spans { ⌜ Spans (now file) (now spans) ⌝ }
@@ -86,10 +88,7 @@ fn first_break(file: &[u8], diagram: Diagram, spans: &[u16; 4096], by_boxes: boo
         let test = test_of(file, diagram, condition);
         let premise = test.premise;
         let search = Search { ranges, test };
-        let mut ask: usize = 1;
-        if !by_boxes {
-            ask = states + 1;
-        }
+        let mut ask = first_ask(by_boxes);
         state = low;
         n = 0;
         'states: while n < states {
@@ -103,15 +102,15 @@ fn first_break(file: &[u8], diagram: Diagram, spans: &[u16; 4096], by_boxes: boo
             state = next;
             n += 1;
             if ask <= n {
-                ask *= 64;
-                let boxes = budget(spans, test, states, ask);
-                if boxes < ask {
-                    ask = states + 1;
-                }
-                let from = Skipped { state, number: n };
-                let found = skip(file, spans, search, states, from, boxes);
-                state = found.state;
-                n = found.number;
+                let from = Scan {
+                    state,
+                    number: n,
+                    ask,
+                };
+                let to = onward(file, spans, search, states, from);
+                state = to.state;
+                n = to.number;
+                ask = to.ask;
             }
         }
         if n < states {
@@ -131,12 +130,15 @@ fn first_break(file: &[u8], diagram: Diagram, spans: &[u16; 4096], by_boxes: boo
     unnamed(0, total as u32, (total * states) as u64)
 }
 
-// The verdict on a readable file.
+// The verdict on a file that reading finds the parts of.
 fn judge(file: &[u8], diagram: Diagram, by_boxes: bool) -> Verdict
     requires { ⌜ Loaded (now file) diagram ⌝ }
-    ensures { λ r. ⌜ r ≡ judgedOf (now (file .entry)) diagram ⌝ }
+    ensures { λ r. ⌜ r ≡ andStart refusedOf (now (file .entry)) diagram (judgedOf (now (file .entry)) diagram) ⌝ }
 {
     let spans = spans_of(file);
+    if !starts(file, diagram, &spans, by_boxes) {
+        return unnamed(20, 0, 0);
+    }
     first_break(file, diagram, &spans, by_boxes)
 }
 
@@ -152,8 +154,15 @@ pub fn verdict(file: &[u8], by_boxes: bool) -> Verdict
 }
 
 // The single test of a readable file.
-fn tested(file: &[u8], diagram: Diagram, condition: usize, state: usize) -> Single
-    requires { ⌜ Loaded (now file) diagram ⌝ }
+fn tested(
+    file: &[u8],
+    diagram: Diagram,
+    spans: &[u16; 4096],
+    condition: usize,
+    state: usize,
+) -> Single
+    requires loaded { ⌜ Loaded (now file) diagram ⌝ }
+    requires spans { ⌜ Spans (now file) (now spans) ⌝ }
     ensures { λ r. ⌜ r ≡ singleJudged (now (file .entry)) diagram condition state ⌝ }
 {
     if total(file, diagram) <= condition {
@@ -166,12 +175,23 @@ fn tested(file: &[u8], diagram: Diagram, condition: usize, state: usize) -> Sing
     let high = diagram.high;
     let test = test_of(file, diagram, condition_at(file, diagram, condition));
     let s = state_of(low, high, state);
-    let spans = spans_of(file);
-    if passes(file, &spans, low, high, test, s) {
+    if passes(file, spans, low, high, test, s) {
         Single::Holds
     } else {
         Single::Fails
     }
+}
+
+// The single test of a file that reading finds the parts of.
+fn try_single(file: &[u8], diagram: Diagram, condition: usize, state: usize) -> Single
+    requires { ⌜ Loaded (now file) diagram ⌝ }
+    ensures { λ r. ⌜ r ≡ andStart Single.Refused (now (file .entry)) diagram (singleJudged (now (file .entry)) diagram condition state) ⌝ }
+{
+    let spans = spans_of(file);
+    if !starts(file, diagram, &spans, true) {
+        return Single::Refused(20, 0);
+    }
+    tested(file, diagram, &spans, condition, state)
 }
 
 // The answer of the single test of a condition at a state, by their numbers.
@@ -180,7 +200,7 @@ pub fn answer(file: &[u8], condition: usize, state: usize) -> Single
 {
     let found = find(file);
     match found {
-        Reading::Found(outline) => tested(file, diagram_of(file, outline), condition, state),
+        Reading::Found(outline) => try_single(file, diagram_of(file, outline), condition, state),
         Reading::Refused(number, place) => Single::Refused(number, place),
     }
 }

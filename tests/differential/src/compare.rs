@@ -1,6 +1,6 @@
 //! A file with what is asked about it, and what the two checkers answer.
 
-use crate::generate::{self, Random};
+use crate::generate::{self, plain, Random};
 use independent::{Claim, Condition, File, Refusal, Tested, Verdict};
 
 /// The whole check is compared on files with at most this many tests: conditions times states.
@@ -9,7 +9,9 @@ pub const TESTS: usize = 100_000;
 /// How a file is read by the independent implementation.
 pub struct Facts {
     pub reading: Result<File, Refusal>,
-    /// None in an unreadable file, as are the states.
+    /// What a file refused with 20 would be if its start were true.
+    pub started: Option<File>,
+    /// None in an unreadable file, as are the states; but those of the started one where there is.
     pub conditions: Vec<Condition>,
     pub states: usize,
 }
@@ -17,30 +19,42 @@ pub struct Facts {
 impl Facts {
     pub fn of(file: &[u8]) -> Facts {
         let reading = independent::read(file);
-        let (conditions, states) = match &reading {
-            Ok(file) => (file.conditions(), file.states()),
-            Err(_) => (Vec::new(), 0),
+        let started = match &reading {
+            Err(Refusal { number: 20, .. }) => {
+                let records = generate::with_start(&generate::records(file), &[plain(0x20)]);
+                independent::read(&records.concat()).ok()
+            }
+            _ => None,
+        };
+        let (conditions, states) = match reading.as_ref().ok().or(started.as_ref()) {
+            Some(file) => (file.conditions(), file.states()),
+            None => (Vec::new(), 0),
         };
         Facts {
             reading,
+            started,
             conditions,
             states,
         }
     }
 
+    /// None in an unreadable file.
     pub fn tests(&self) -> usize {
-        self.conditions.len().saturating_mul(self.states)
+        match &self.reading {
+            Ok(_) => self.conditions.len().saturating_mul(self.states),
+            Err(_) => 0,
+        }
     }
 
-    /// The property's a; 0 in an unreadable file.
+    /// The property's a; 0 in an unreadable file, but for one refused with 20.
     pub fn property(&self) -> usize {
-        match &self.reading {
-            Ok(file) => match file.claim {
+        match self.reading.as_ref().ok().or(self.started.as_ref()) {
+            Some(file) => match file.claim {
                 Claim::Invariance { .. } => 1,
                 Claim::WaitFor { .. } => 2,
                 Claim::Chain { .. } => 3,
             },
-            Err(_) => 0,
+            None => 0,
         }
     }
 }
@@ -70,8 +84,8 @@ impl Case {
     pub fn random(random: &mut Random, file: Vec<u8>, facts: &Facts) -> Case {
         let (bytes, room) = generate::buffer(random);
         let count = match facts.tests() {
-            0 => 1,
-            1..=TESTS => 3,
+            0 if facts.started.is_none() || facts.states > TESTS => 1,
+            0..=TESTS => 3,
             _ => 8,
         };
         let single = |_| {

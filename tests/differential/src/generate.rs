@@ -3,6 +3,9 @@
 //! bytes. What comes out depends on the seed and the samples alone.
 
 mod diagrams;
+mod starts;
+
+use std::ops::Range;
 
 pub type Record = [u8; 8];
 /// Records of an expression, in prefix order.
@@ -23,6 +26,14 @@ const NO_KINDS: [u8; 10] = [0x00, 0x08, 0x0f, 0x16, 0x17, 0x1a, 0x1f, 0x2a, 0x81
 pub fn record(kind: u8, a: u8, b: i16, c: i16, d: u8) -> Record {
     let ([b0, b1], [c0, c1]) = (b.to_le_bytes(), c.to_le_bytes());
     [kind, a, b0, b1, c0, c1, d, 0]
+}
+
+/// A file's whole records.
+pub fn records(file: &[u8]) -> Vec<Record> {
+    let records = file.chunks_exact(8);
+    records
+        .map(|bytes| bytes.try_into().expect("8 bytes"))
+        .collect()
 }
 
 pub fn plain(kind: u8) -> Record {
@@ -141,6 +152,22 @@ pub fn divisors(records: &[Record]) -> Vec<usize> {
         _ => false,
     };
     (0..records.len()).filter(divides).collect()
+}
+
+/// Where the start's truth stands, if the file has a start.
+pub fn start(records: &[Record]) -> Option<Range<usize>> {
+    let first = records.iter().position(|record| record[0] == 0x02)? + 1;
+    let behind = records[first..].iter().position(|record| record[0] < 0x10);
+    Some(first..behind.map_or(records.len(), |behind| first + behind))
+}
+
+/// The records with another truth as the start.
+pub fn with_start(records: &[Record], truth: &[Record]) -> Vec<Record> {
+    let mut records = records.to_vec();
+    if let Some(place) = start(&records) {
+        records.splice(place, truth.iter().copied());
+    }
+    records
 }
 
 pub type Interval = (i64, i64);
@@ -568,7 +595,7 @@ impl Draft {
         let short = plan.transitions + plan.truths + plan.nodes > 20;
         let mut draft = Draft {
             ranges: ranges.clone(),
-            start: grower.any_truth(short),
+            start: grower.any_start(short),
             transitions: (0..plan.transitions)
                 .map(|_| Transition {
                     just: grower.random.percent(60),
@@ -783,6 +810,11 @@ impl Draft {
 }
 
 impl Grower<'_> {
+    fn any_start(&mut self, short: bool) -> Code {
+        let levels = self.any_levels(short);
+        self.start(levels)
+    }
+
     fn any_truth(&mut self, short: bool) -> Code {
         let levels = self.any_levels(short);
         self.truth(levels, false)
@@ -998,6 +1030,9 @@ pub fn file(random: &mut Random, samples: &Samples) -> Vec<u8> {
         70..=91 => {
             let mut records = whole(random, samples);
             let mut times = random.pick(&[1, 1, 1, 2, 3]);
+            if random.percent(10) {
+                starts::spoil(random, &mut records);
+            }
             if random.percent(20) {
                 damage_divisor(random, &mut records);
                 times -= 1;
@@ -1059,10 +1094,7 @@ fn whole(random: &mut Random, samples: &Samples) -> Vec<Record> {
         3..=8 => return diagrams::diagram(random),
         _ => return Draft::random(random).records(),
     };
-    sample[random.below(sample.len())]
-        .chunks_exact(8)
-        .map(|bytes| bytes.try_into().expect("8 bytes"))
-        .collect()
+    records(&sample[random.below(sample.len())])
 }
 
 /// The head of one file and the tail of another: cut anywhere, or before records of one kind.

@@ -9,7 +9,7 @@ use independent::Verdict;
 const RANGES: [(i16, i16); 4] = [(0, 31), (-16, 15), (-20, -5), (0, 63)];
 
 pub struct Large {
-    pub name: &'static str,
+    pub name: String,
     pub file: Vec<u8>,
     /// The verdict's number, the condition or the total, and the tests.
     pub number: u8,
@@ -137,16 +137,51 @@ fn divided() -> Code {
     join(0x23, &[&low, &join(0x23, &[&is(2, c), &is(3, d)])])
 }
 
-pub fn cases() -> Vec<Large> {
-    let large = |name, draft: Draft, number, at, tests| Large {
-        name,
+/// That twice variable 0, in 0..31, is one more than twice variable 3, in 0..63. The intervals are
+/// 0..62 and 1..127.
+fn odd_and_even() -> Code {
+    let twice = |number| join(0x14, &[&value(2), &variable(number)]);
+    equal(&twice(0), &join(0x12, &[&twice(3), &value(1)]))
+}
+
+fn large(name: &str, draft: Draft, number: u8, at: u32, tests: u64) -> Large {
+    Large {
+        name: name.to_string(),
         file: draft.records().concat(),
         number,
         at,
         tests,
-    };
+    }
+}
+
+/// C10.20: starts that no state satisfies, as the ranges tell or only the states, and starts that
+/// the last state alone does.
+fn starts() -> Vec<Large> {
+    let mut list = Vec::new();
+    // Variable 2 is in -20..-5.
+    let out_of_reach = join(0x28, &[&variable(0), &variable(2)]);
+    for (property, total) in [(INVARIANCE, 4), (WAIT_FOR, 5), (CHAIN, 5)] {
+        for (name, start, number, at) in [
+            ("out of reach", &out_of_reach, 20, 0),
+            ("odd and even", &odd_and_even(), 20, 0),
+            ("at the last state", &last_state(), 0, total),
+        ] {
+            let mut draft = match property {
+                INVARIANCE => keeping(always(), always(), always()),
+                _ => falling(property, always()),
+            };
+            draft.start = start.clone();
+            let name = format!("start {name}, property {property}");
+            list.push(large(&name, draft, number, at, u64::from(at) * 1_048_576));
+        }
+    }
+    list
+}
+
+pub fn cases() -> Vec<Large> {
     let others = || not(&last_state());
-    vec![
+    let mut list = starts();
+    list.extend([
         large(
             "an invariance, accepted",
             keeping(others(), always(), others()),
@@ -204,7 +239,8 @@ pub fn cases() -> Vec<Large> {
             4,
             5_242_880,
         ),
-    ]
+    ]);
+    list
 }
 
 /// The file that takes the most tests, more than 31 bits hold: 32 nodes and 32 transitions.
@@ -212,11 +248,5 @@ pub fn greatest() -> Large {
     let mut draft = keeping(last_state(), always(), last_state());
     draft.transitions = vec![draft.transitions[0].clone(); 32];
     draft.nodes = vec![draft.nodes[0].clone(); 32];
-    Large {
-        name: "the most tests",
-        file: draft.records().concat(),
-        number: 0,
-        at: 2_081,
-        tests: 2_182_086_656,
-    }
+    large("the most tests", draft, 0, 2_081, 2_182_086_656)
 }

@@ -1,5 +1,5 @@
-//! Files at each limit and one past it, and with divisors that can and can't be such, with how they
-//! must be read.
+//! Files at each limit and one past it, with divisors that can and can't be such, and with starts
+//! that can and can't happen, with how they must be read.
 
 use crate::generate::{
     constant, join, plain, record, truth_of_size, value, Code, Draft, Edge, Random, Record,
@@ -25,6 +25,8 @@ pub fn cases() -> Vec<Limit> {
     intervals(&mut list);
     divisors(&mut list);
     divided_intervals(&mut list);
+    starts(&mut list);
+    starts_and_others(&mut list);
     list.0
 }
 
@@ -225,9 +227,10 @@ fn records(list: &mut List) {
     list.add("4096 records and a byte", file, Some((2, 0)));
 }
 
-/// A truth of so many levels.
+/// A truth of so many levels, true everywhere.
 fn nested_truth(levels: usize) -> Code {
-    [vec![plain(0x22); levels - 1], always()].concat()
+    let last = if levels % 2 == 1 { 0x20 } else { 0x21 };
+    [vec![plain(0x22); levels - 1], vec![plain(last)]].concat()
 }
 
 /// A number of so many levels, by left or by right operands.
@@ -280,7 +283,7 @@ fn levels(list: &mut List) {
         // An indicator in between: the number's levels count on.
         for levels in [16, 17] {
             let inside = join(0x15, &[&nested_truth(levels - 2)]);
-            let records = with(join(0x27, &[&vec![constant(0)], &inside]));
+            let records = with(join(0x27, &[&vec![constant(1)], &inside]));
             match levels {
                 16 => list.readable(&name("16 levels, indicator"), records),
                 _ => list.refused(&name("17 levels, indicator"), records, 5, at + 17),
@@ -333,11 +336,11 @@ fn states(list: &mut List) {
 
 /// C3.1, C3.2, C3.3, C3.4, C10.8: intervals that end at a bound, and one past it.
 fn intervals(list: &mut List) {
-    // A number is compared with 0 in the start; its first record is record 3.
+    // A number is compared with itself in the start; its first record is record 3.
     let start = |number: Code| {
         let mut draft = draft(INVARIANCE, 1);
         draft.ranges = vec![(-1, 3)];
-        draft.start = join(0x27, &[&number, &vec![constant(0)]]);
+        draft.start = join(0x27, &[&number, &number]);
         draft.records()
     };
     let variable = vec![record(0x11, 0, 0, 0, 0)];
@@ -512,9 +515,9 @@ fn divisors_and_others(list: &mut List, kind: u8) {
     let bad = || divided(kind, &vec![constant(0)]);
     // Operands at level 16 and at level 17, 13 and 14 records before the comparison.
     for (value, nots, refusal) in [
-        (1, 13, None),
+        (2, 13, None),
         (0, 13, Some((19, 18))),
-        (1, 14, Some((5, 18))),
+        (2, 14, Some((5, 18))),
         (0, 14, Some((5, 18))),
     ] {
         let mut draft = divided(kind, &vec![constant(value)]);
@@ -579,7 +582,7 @@ fn divided_intervals(list: &mut List) {
     let start = |range: (i16, i16), number: &Code| {
         let mut draft = draft(INVARIANCE, 1);
         draft.ranges = vec![range];
-        draft.start = join(0x27, &[number, &vec![constant(0)]]);
+        draft.start = join(0x27, &[number, number]);
         draft.records()
     };
     let variable = vec![record(0x11, 0, 0, 0, 0)];
@@ -631,4 +634,107 @@ fn divided_intervals(list: &mut List) {
         let name = format!("left operand out of bounds, kind {kind:x}");
         list.refused(&name, start((0, 1), &number), 8, 4);
     }
+}
+
+/// Variables in 0..3 and -2..2, two nodes, a transition, and everything true but the start.
+fn started(property: u8, start: &Code) -> Draft {
+    let mut draft = draft(property, 2);
+    draft.ranges = vec![(0, 3), (-2, 2)];
+    draft.start = start.clone();
+    draft.transitions = vec![idle()];
+    if property == CHAIN {
+        draft.edges = double_edges(2);
+    }
+    draft
+}
+
+fn variable(number: u8) -> Code {
+    vec![record(0x11, number, 0, 0, 0)]
+}
+
+fn never() -> Code {
+    vec![plain(0x21)]
+}
+
+/// C6.3, C10.20: starts that no state satisfies, and that one state does.
+fn starts(list: &mut List) {
+    let (v, w) = (variable(0), variable(1));
+    let less = |left: &Code, right: &Code| join(0x28, &[left, right]);
+    let equal = |left: &Code, right: &Code| join(0x27, &[left, right]);
+    let both = |left: &Code, right: &Code| join(0x23, &[left, right]);
+    let here = |v_is, w_is| both(&equal(&v, &value(v_is)), &equal(&w, &value(w_is)));
+    let twice = |number: &Code| join(0x14, &[&value(2), number]);
+    let odd = join(0x12, &[&twice(&w), &value(1)]);
+    for property in [INVARIANCE, WAIT_FOR, CHAIN] {
+        let name = |text: &str| format!("{text}, property {property}");
+        for (text, start) in [
+            ("start false", never()),
+            ("start past the last value", equal(&v, &value(4))),
+            ("start before the first value", less(&w, &value(-2))),
+            (
+                "start of two that exclude each other",
+                both(&less(&v, &w), &less(&w, &v)),
+            ),
+            ("start of a value and another", here(0, 3)),
+            (
+                "start of an odd number that is even",
+                equal(&twice(&v), &odd),
+            ),
+            ("start of a remainder that is none", {
+                let remainder = join(0x19, &[&twice(&w), &value(2)]);
+                equal(&remainder, &value(1))
+            }),
+        ] {
+            let records = started(property, &start).records();
+            list.refused(&name(text), records, 20, 0);
+        }
+        for (text, start) in [
+            ("start at the first state", here(0, -2)),
+            ("start at the second state", here(0, -1)),
+            ("start between", here(2, 0)),
+            ("start at the last state but one", here(3, 1)),
+            ("start at the last state", here(3, 2)),
+        ] {
+            list.readable(&name(text), started(property, &start).records());
+        }
+    }
+}
+
+/// C11.1: 20 with 7 to 10, and with conditions that are broken.
+fn starts_and_others(list: &mut List) {
+    for property in [INVARIANCE, WAIT_FOR, CHAIN] {
+        let name = |text: &str| format!("start false and {text}, property {property}");
+        let bad = || started(property, &never());
+        let mut states = bad();
+        states.ranges = vec![(0, 1023), (0, 1024)];
+        list.refused(&name("too many states"), states.records(), 7, 1);
+        let mut interval = bad();
+        let out = join(0x14, &[&vec![constant(1001)], &vec![constant(1000)]]);
+        interval.nodes[1] = join(0x28, &[&out, &value(0)]);
+        let records = interval.records();
+        // Behind the product stand three constants, and the edge of a chain.
+        let place = records.len() - 4 - interval.edges.len();
+        list.refused(&name("an interval"), records, 8, place);
+        let mut edge = bad();
+        edge.edges.push(Edge {
+            transition: 0,
+            from: 0,
+            to: 1,
+            double: true,
+        });
+        let place = edge.records().len() - 1;
+        list.refused(&name("an edge"), edge.records(), 9, place);
+        let mut broken = bad();
+        broken.truths.fill(never());
+        list.refused(&name("a broken cover"), broken.records(), 20, 0);
+        let mut broken = bad();
+        broken.transitions[0].assignments = vec![(0, value(4))];
+        list.refused(&name("a broken range"), broken.records(), 20, 0);
+        let mut broken = bad();
+        broken.nodes = vec![never(); 2];
+        list.refused(&name("no node"), broken.records(), 20, 0);
+    }
+    let mut chain = started(CHAIN, &never());
+    chain.edges.clear();
+    list.refused("start false and no double edge", chain.records(), 10, 1);
 }

@@ -147,10 +147,10 @@ impl Run {
         for large in large::cases() {
             let random = &mut Random::new(0, 0);
             let file = large.file.clone();
-            let asked = self.compare(large.name, || asked(random, file, Some(usize::MAX)));
+            let asked = self.compare(&large.name, || asked(random, file, Some(usize::MAX)));
             let answer = asked.and_then(|Asked { answers, .. }| answers.check);
             let as_expected = answer.map(|(verdict, _)| large.expects(&verdict));
-            self.test(large.name.to_string(), as_expected == Some(true));
+            self.test(large.name, as_expected == Some(true));
         }
     }
 
@@ -158,7 +158,7 @@ impl Run {
     fn greatest(&mut self) {
         let large = large::greatest();
         let verdict = proved_check(&large.file, &mut [0; 32]);
-        self.test(large.name.to_string(), large.expects(&verdict));
+        self.test(large.name.clone(), large.expects(&verdict));
     }
 
     fn test(&mut self, name: String, passes: bool) {

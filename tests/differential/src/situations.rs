@@ -3,17 +3,22 @@
 
 use crate::compare::{Case, Facts};
 use crate::generate::{
-    combine, constant, divisors, levels, operands, owners, Interval, Record, KINDS, RECORDS,
+    self, combine, constant, divisors, levels, operands, owners, plain, with_start, Interval,
+    Record, KINDS, RECORDS,
 };
-use independent::{number, Claim, File, Number, Pair, Refusal, Tested, Truth, Verdict};
+use independent::{number, read, states, truth};
+use independent::{Claim, Condition, File, Number, Pair, Refusal, Tested, Truth, Verdict};
 
 const BOUND: i64 = 1_000_000;
-/// A file with a short buffer is checked once more, with room, if it has at most so many tests.
+/// A file with a short buffer is checked once more, with room, if it has at most so many tests; and
+/// one without a start with another.
 const LITTLE: usize = 1_000;
+/// Of at most so many states it is told which are starting states.
+const FEW: usize = 10_000;
 
 /// The situations that must come up. A number in front is the refusal; files with a limit reached
 /// are readable.
-pub const SITUATIONS: [&str; 96] = [
+pub const SITUATIONS: [&str; 121] = [
     "12 variables",
     "5: variable 13",
     "4: field of variable 13",
@@ -110,14 +115,50 @@ pub const SITUATIONS: [&str; 96] = [
     "4: and a later number that is no divisor",
     "5: and a later number that is no divisor",
     "6: and a later number that is no divisor",
+    "a start at the first of several states only",
+    "a start at the last of several states only",
+    "a start at one state only, between others",
+    "20: false",
+    "20: a conjunction of truths that some states satisfy",
+    "20: a comparison that intervals settle",
+    "20: a comparison that intervals leave open",
+    "20: over two variables",
+    "20: with a quotient or remainder",
+    "20: of one state",
+    "20: of 1,048,576 states",
+    "20: and a broken condition of an invariance",
+    "20: and a broken condition of a wait-for",
+    "20: and a broken condition of a chain",
+    "3: and no start",
+    "4: and no start",
+    "5: and no start",
+    "6: and no start",
+    "7: and no start",
+    "8: and no start",
+    "9: and no start, in an invariance",
+    "9: and no start, in a wait-for",
+    "9: and no start, in a chain",
+    "10: and no start",
+    "19: and no start",
 ];
 
 /// The verdicts without a condition that must come up. A number in front is the refusal.
-pub const UNNAMED: [&str; 4] = [
+pub const UNNAMED: [&str; 6] = [
     "accepted, with all tests",
     "refused, no tests",
     "1: no tests, the file else accepted",
     "1: no tests, the file else broken",
+    "1: no tests, the file else refused with 20",
+    "20: no tests",
+];
+
+/// The single tests of files refused with 20 that must come up, for each property.
+pub const STARTLESS: [&str; 5] = [
+    "of a condition and a state",
+    "of too large a condition's number",
+    "of too large a state's number",
+    "of two too large numbers",
+    "that would fail",
 ];
 
 /// The breaking states that must come up, for each kind of condition.
@@ -140,6 +181,7 @@ pub fn unnamed(case: &Case, facts: &Facts, verdict: &Verdict) -> Vec<&'static st
     let with_room = || independent::check(&case.file, &mut [0; 32]).number;
     let little = facts.reading.is_ok() && facts.tests() <= LITTLE;
     let otherwise = (number == 1 && little).then(with_room);
+    let startless = facts.started.is_some();
     told(&[
         ("accepted, with all tests", number == 0 && all),
         ("refused, no tests", number > 0 && none),
@@ -151,7 +193,47 @@ pub fn unnamed(case: &Case, facts: &Facts, verdict: &Verdict) -> Vec<&'static st
             "1: no tests, the file else broken",
             otherwise >= Some(13) && none,
         ),
+        (
+            "1: no tests, the file else refused with 20",
+            number == 1 && startless && none,
+        ),
+        ("20: no tests", number == 20 && none),
     ])
+}
+
+/// The situations of the single tests of a file refused with 20.
+pub fn startless(case: &Case, facts: &Facts) -> Vec<&'static str> {
+    if facts.started.is_none() {
+        return Vec::new();
+    }
+    let started = with_start(&generate::records(&case.file), &[plain(0x20)]).concat();
+    let situations = |&(condition, state): &(usize, usize)| {
+        let condition_too_large = condition >= facts.conditions.len();
+        let state_too_large = state >= facts.states;
+        // The start condition holds, as the start is false.
+        let other = facts.conditions.get(condition) != Some(&Condition::Start);
+        let fails = || independent::single(&started, condition, state) == Tested::Fails;
+        told(&[
+            (
+                "of a condition and a state",
+                !condition_too_large && !state_too_large,
+            ),
+            (
+                "of too large a condition's number",
+                condition_too_large && !state_too_large,
+            ),
+            (
+                "of too large a state's number",
+                !condition_too_large && state_too_large,
+            ),
+            (
+                "of two too large numbers",
+                condition_too_large && state_too_large,
+            ),
+            ("that would fail", other && fails()),
+        ])
+    };
+    case.singles.iter().flat_map(situations).collect()
 }
 
 /// The situations of the state that breaks the named condition, if the tests are those up to it. Of
@@ -275,18 +357,152 @@ impl<'a> Divisions<'a> {
 
 /// The file's situations.
 pub fn of(file: &[u8], facts: &Facts) -> Vec<&'static str> {
-    let records: Vec<Record> = file
-        .chunks_exact(8)
-        .map(|bytes| bytes.try_into().expect("8 bytes"))
-        .collect();
+    let records = generate::records(file);
     match &facts.reading {
         Ok(read) => [
             reached(&records, read, facts.states),
             divided(&records, read),
+            starting(read, facts.states),
         ]
         .concat(),
-        Err(refusal) => refused(file.len(), &records, refusal),
+        Err(refusal) if refusal.number == 20 => no_start(&records, facts),
+        Err(refusal) => [
+            refused(file.len(), &records, refusal),
+            and_no_start(&records, refusal),
+        ]
+        .concat(),
     }
+}
+
+/// Whether a readable file has one starting state only.
+fn starting(read: &File, count: usize) -> Vec<&'static str> {
+    let few = if count > FEW { 0 } else { count };
+    let all = states(&read.variables).take(few).enumerate();
+    let starting = all.filter(|(_, state)| truth(&read.start, state));
+    let starting: Vec<usize> = starting.map(|(number, _)| number).take(2).collect();
+    let only = |at| count > 1 && starting == [at];
+    told(&[
+        ("a start at the first of several states only", only(0)),
+        (
+            "a start at the last of several states only",
+            only(count - 1),
+        ),
+        (
+            "a start at one state only, between others",
+            starting.len() == 1 && !only(0) && !only(count - 1) && count > 1,
+        ),
+    ])
+}
+
+/// What start no state satisfies, and whether the file has a broken condition besides.
+fn no_start(records: &[Record], facts: &Facts) -> Vec<&'static str> {
+    let place = generate::start(records).expect("a start");
+    let start = &records[place.clone()];
+    let kind = start[0][0];
+    let owners = owners(records);
+    let operand = |number| {
+        let first = owners
+            .iter()
+            .position(|&owner| owner == Some((place.start, number)));
+        first.expect("an operand")
+    };
+    let comparison = (0x27..=0x29).contains(&kind);
+    let open = || {
+        let found = intervals(records);
+        let [left, right] = [0, 1].map(|number| found[operand(number)].expect("a number"));
+        match kind {
+            0x27 => left.0 <= right.1 && right.0 <= left.1,
+            0x28 => left.0 < right.1,
+            _ => left.0 <= right.1,
+        }
+    };
+    let satisfied = |truth: &[Record]| read(&with_start(records, truth).concat()).is_ok();
+    let both = || {
+        let parts = [
+            &records[operand(0)..operand(1)],
+            &records[operand(1)..place.end],
+        ];
+        facts.states <= FEW && parts.into_iter().all(satisfied)
+    };
+    let names = |variable| start.iter().any(|one| one[..2] == [0x11, variable]);
+    let broken = |property| facts.property() == property && breaks(records, facts);
+    told(&[
+        ("20: false", kind == 0x21),
+        (
+            "20: a conjunction of truths that some states satisfy",
+            kind == 0x23 && both(),
+        ),
+        (
+            "20: a comparison that intervals settle",
+            comparison && !open(),
+        ),
+        (
+            "20: a comparison that intervals leave open",
+            comparison && open(),
+        ),
+        (
+            "20: over two variables",
+            (0..12).filter(|&variable| names(variable)).count() == 2,
+        ),
+        (
+            "20: with a quotient or remainder",
+            start.iter().any(|one| matches!(one[0], 0x18 | 0x19)),
+        ),
+        ("20: of one state", facts.states == 1),
+        ("20: of 1,048,576 states", facts.states == 1_048_576),
+        ("20: and a broken condition of an invariance", broken(1)),
+        ("20: and a broken condition of a wait-for", broken(2)),
+        ("20: and a broken condition of a chain", broken(3)),
+    ])
+}
+
+/// Whether a file without a start breaks a condition, if it has few tests. The start condition is
+/// true without a start, and so it is with node 0 as the start.
+fn breaks(records: &[Record], facts: &Facts) -> bool {
+    let node = records.iter().position(|one| one[0] == 0x06);
+    let node = &records[node.map_or(0, |node| node + 1)..];
+    let end = node.iter().position(|one| one[0] < 0x10);
+    let start = match facts.property() {
+        1 => node[..end.unwrap_or(node.len())].to_vec(),
+        _ => vec![plain(0x20)],
+    };
+    let file = with_start(records, &start).concat();
+    let number = || independent::check(&file, &mut [0; 32]).number;
+    facts.conditions.len() * facts.states <= LITTLE && (13..=18).contains(&number())
+}
+
+/// Whether no state satisfies the start of a file that is refused with another number than 20. Of
+/// more states than there may be that is told of the start false only.
+fn and_no_start(records: &[Record], refusal: &Refusal) -> Vec<&'static str> {
+    let none = generate::start(records).map_or(false, |place| {
+        let claim = [
+            [5, 1, 0, 0, 0, 0, 0, 0],
+            plain(0x20),
+            plain(0x06),
+            plain(0x20),
+        ];
+        let readable = [&records[..place.end], &claim].concat().concat();
+        let refused = read(&readable).map_err(|refusal| refusal.number);
+        match refusal.number {
+            7 => records[place] == [plain(0x21)],
+            _ => refused == Err(20),
+        }
+    });
+    let [invariance, wait_for, chain] = [1, 2, 3].map(|a| property(records) == Some(a));
+    let number = |of| none && refusal.number == of;
+    told(&[
+        ("3: and no start", number(3)),
+        ("4: and no start", number(4)),
+        ("5: and no start", number(5)),
+        ("6: and no start", number(6)),
+        ("7: and no start", number(7)),
+        ("8: and no start", number(8)),
+        ("9: and no start, in an invariance", number(9) && invariance),
+        ("9: and no start, in a wait-for", number(9) && wait_for),
+        ("9: and no start, in a chain", number(9) && chain),
+        ("10: and no start", number(10)),
+        ("19: and no start", number(19)),
+    ])
 }
 
 fn reached(records: &[Record], read: &File, states: usize) -> Vec<&'static str> {

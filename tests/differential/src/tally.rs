@@ -1,7 +1,7 @@
 //! What came up in the compared files.
 
 use crate::compare::{Answers, Case, Facts};
-use crate::situations::{self, BREAKING, SITUATIONS, UNNAMED};
+use crate::situations::{self, BREAKING, SITUATIONS, STARTLESS, UNNAMED};
 use independent::Tested;
 use std::collections::HashSet;
 
@@ -12,6 +12,8 @@ const OFTEN: u64 = 100;
 /// Every situation must.
 const SELDOM: u64 = 10;
 
+/// The verdicts' numbers are 0 to 20.
+const NUMBERS: usize = 21;
 const PROPERTIES: [&str; 4] = ["none", "invariance", "wait-for", "chain"];
 /// The numbers of broken conditions, with the properties that have such conditions.
 const CONDITIONS: [(usize, &str, &[usize]); 6] = [
@@ -26,22 +28,25 @@ const CONDITIONS: [(usize, &str, &[usize]); 6] = [
 const EDGES: [&str; 5] = ["0", "the last", "one past", "the greatest usize", "2^32 up"];
 
 pub struct Tally {
-    /// Checks by number and property; 0 for the property of an unreadable file, and for number 1.
-    checks: [[u64; 4]; 20],
+    /// Checks by number and property; 0 for the property of an unreadable file, but for number 20,
+    /// and for number 1.
+    checks: [[u64; 4]; NUMBERS],
     /// The places of refusals by number.
     places: Vec<HashSet<u32>>,
     /// Checks by the buffer's length.
     rooms: [u64; 65],
     /// Single tests that are refused, by number.
-    refused: [u64; 20],
+    refused: [u64; NUMBERS],
     /// Single tests that fail and that hold, by number and property of the condition.
-    tested: [[[u64; 4]; 20]; 2],
+    tested: [[[u64; 4]; NUMBERS]; 2],
     /// Conditions and states of single tests of readable files.
     edges: [[u64; 5]; 2],
     situations: [u64; SITUATIONS.len()],
     unnamed: [u64; UNNAMED.len()],
     /// By the number of the broken condition.
-    breaking: [[u64; BREAKING.len()]; 20],
+    breaking: [[u64; BREAKING.len()]; NUMBERS],
+    /// Single tests refused with 20, by property.
+    startless: [[u64; STARTLESS.len()]; 4],
     /// Readable files that have too many tests for the whole check.
     singles_only: u64,
 }
@@ -49,15 +54,16 @@ pub struct Tally {
 impl Default for Tally {
     fn default() -> Tally {
         Tally {
-            checks: [[0; 4]; 20],
-            places: vec![HashSet::new(); 20],
+            checks: [[0; 4]; NUMBERS],
+            places: vec![HashSet::new(); NUMBERS],
             rooms: [0; 65],
-            refused: [0; 20],
-            tested: [[[0; 4]; 20]; 2],
+            refused: [0; NUMBERS],
+            tested: [[[0; 4]; NUMBERS]; 2],
             edges: [[0; 5]; 2],
             situations: [0; SITUATIONS.len()],
             unnamed: [0; UNNAMED.len()],
-            breaking: [[0; BREAKING.len()]; 20],
+            breaking: [[0; BREAKING.len()]; NUMBERS],
+            startless: [[0; STARTLESS.len()]; 4],
             singles_only: 0,
         }
     }
@@ -95,11 +101,13 @@ impl Tally {
                     counts[usize::from(number)][property] += 1;
                 }
             }
-            if property > 0 {
+            if facts.reading.is_ok() {
                 edge(&mut self.edges[0], condition, facts.conditions.len());
                 edge(&mut self.edges[1], state, facts.states);
             }
         }
+        let found = situations::startless(case, facts);
+        add(&mut self.startless[property], &STARTLESS, found);
         let found = situations::of(&case.file, facts);
         add(&mut self.situations, &SITUATIONS, found);
     }
@@ -112,17 +120,26 @@ impl Tally {
             let name = format!("{name}: {count}, at least {least}");
             tests.push((name, count >= least));
         };
-        for number in (0..=10).chain(13..=19) {
+        for number in (0..=10).chain(13..=20) {
             let count = self.checks[number].iter().sum();
             least(format!("checks of number {number}"), count, often);
         }
-        for number in (2..=12).chain([19]) {
+        for number in (2..=12).chain([19, 20]) {
             let name = format!("single tests of number {number}");
             least(name, self.refused[number], often);
         }
         for (property, name) in PROPERTIES.iter().enumerate().skip(1) {
             let count = self.checks[0][property];
             least(format!("accepted, {name}"), count, often);
+            let count = self.checks[20][property];
+            least(format!("no start, {name}"), count, often);
+            for (&count, what) in self.startless[property].iter().zip(STARTLESS) {
+                least(
+                    format!("no start, {name}: single tests {what}"),
+                    count,
+                    often,
+                );
+            }
         }
         for (number, condition, properties) in CONDITIONS {
             for &property in properties {
@@ -187,6 +204,11 @@ impl Tally {
         }
         for (count, name) in self.unnamed.iter().zip(UNNAMED) {
             println!("{count:6} {name}");
+        }
+        println!("no start            invariance  wait-for   chain  single tests");
+        for (at, what) in STARTLESS.iter().enumerate() {
+            let [_, invariance, wait_for, chain] = self.startless.map(|counts| counts[at]);
+            println!("{invariance:30} {wait_for:9} {chain:7}  {what}");
         }
         let names = CONDITIONS.map(|(_, name, _)| format!("{name:>9}"));
         println!("{} broken", names.concat());

@@ -14,6 +14,7 @@ mod parse;
 mod records;
 mod refusal;
 mod report;
+mod start;
 mod states;
 
 pub use conditions::Condition;
@@ -33,8 +34,8 @@ pub enum Tested {
     Refused { number: u8, place: u32 },
 }
 
-/// C11.1, C11.6: reads a file. Refusals 2 to 10 and 19, each tried for the whole file before the
-/// next, but 3 to 6 and 19 record by record.
+/// C11.1, C11.6: reads a file. Refusals 2 to 10, 19 and 20, each tried for the whole file before
+/// the next, but 3 to 6 and 19 record by record.
 pub fn read(file: &[u8]) -> Result<File, Refusal> {
     records::check_length(file)?;
     let file = parse::parse(file)?;
@@ -42,6 +43,7 @@ pub fn read(file: &[u8]) -> Result<File, Refusal> {
     intervals::check_expressions(&file)?;
     edges::check_rules(&file)?;
     edges::check_doubles(&file)?;
+    start::check_start(&file)?;
     Ok(file)
 }
 
@@ -90,7 +92,7 @@ pub fn single(file: &[u8], condition: usize, state: usize) -> Tested {
     }
 }
 
-/// C13.2, C13.3: refusals 2 to 10 and 19, then C10.11, then C10.12; else whether the condition
+/// C13.2, C13.3: refusals 2 to 10, 19 and 20, then C10.11, then C10.12; else whether the condition
 /// holds.
 fn test(file: &[u8], condition: usize, state: usize) -> Result<bool, Refusal> {
     let file = read(file)?;

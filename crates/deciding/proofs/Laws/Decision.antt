@@ -16,14 +16,15 @@ use native.Mathlib.Omega.{arith}
 use lib.ListN.{length}
 use lib.IntN.{ℤ}
 use Rattle.diagrams.specs.declared.Diagram.{Diagram}
-use Rattle.diagrams.specs.Diagram.{Loaded, State}
+use Rattle.diagrams.specs.Diagram.{Loaded, State, stateAt, stateNumber}
+use Rattle.diagrams.proofs.Laws.Diagram.{state-numbered, number-state}
 use Rattle.conditions.specs.Condition.{totalOf, conditionAt, Listed}
 use Rattle.conditions.specs.declared.Condition.{Condition}
 use Rattle.conditions.proofs.Laws.Condition.{condition-listed, listed-number, refusal-above}
 use Rattle.testing.specs.Holding.{conditionHolds}
 use Rattle.report.specs.declared.Verdict.{Verdict}
-use Rattle.verdicts.specs.Verdict.{stateAt, stateNumber, unnamedOf, isTrue, judgedOf}
-use Rattle.verdicts.proofs.Laws.Verdict.{state-numbered, number-state, true-at, true-holds, judged-whole, Broken, Whole, judged-cases}
+use Rattle.verdicts.specs.Verdict.{unnamedOf, isTrue, judgedOf}
+use Rattle.verdicts.proofs.Laws.Verdict.{true-at, true-holds, judged-whole, Broken, Whole, judged-cases}
 use Rattle.deciding.specs.Decision.{Everywhere, Names, testsMade, Judges}
 use Rattle.deciding.proofs.Laws.Tests.{made-whole, made-broken}
 

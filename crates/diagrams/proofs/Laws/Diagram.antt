@@ -2,9 +2,10 @@
 --     found-read                           reading found its parts
 --     find-refuses                         or refused the file, with a number of 2 or more and a small place (C11.7)
 --     diagram-loaded                       a file whose parts are found has a diagram
---     readable-loaded, loaded-readable     a file is readable exactly if it has one (C11.6)
 --     loaded-once                          and it is the only one
 --     promised                             all that is promised of it
+--     state-at                             the state of a number, by the ranges (C4.4)
+--     state-numbered, number-state         each number below that of the states has a state, and each state such a number (C4.5)
 -- Assumes nothing.
 use mathlib.Core.Path.{_≡_, refl, sym, ap, subst, _∙_}
 use mathlib.Core.Bool.{Bool, true, false, cond}
@@ -13,6 +14,7 @@ use Prim.Native.Nat.{ℕ, _+_, _/_, _<_, _≤_}
 use native.Mathlib.Omega.{arith}
 use lib.ListN.{length, getD}
 use lib.Dec.{eqb}
+use lib.IntN.{ℤ}
 use Rattle.records.specs.Kind.{truth as truthSort}
 use Rattle.records.specs.Place.{placeOf, placesOf}
 use Rattle.truths.proofs.Laws.Table.{table-at}
@@ -20,6 +22,8 @@ use Rattle.sections.specs.Section.{claimAt, propertyAt, phasesOr, expressionsOf
 use Rattle.sections.proofs.Laws.Property.{property-nodes, phases-counted, expressions-are}
 use Rattle.shapes.specs.declared.Outline.{Outline}
 use Rattle.intervals.proofs.Laws.Expression.{expression-within}
+use Rattle.states.specs.Number.{stateOf}
+use Rattle.states.proofs.Laws.Number.{number-below, state-of-number, number-of-state, state-within}
 use Rattle.ranges.proofs.Laws.Range.{ends-length, states-idle}
 use Rattle.shapes.specs.declared.Reading.{Reading}
 use Rattle.reading.specs.Read.{readOf}
@@ -30,7 +34,7 @@ use Rattle.reading.proofs.Laws.Refusal.{read-refuses}
 use Rattle.reading.proofs.Laws.Readable as readable
 use Rattle.evaluating.proofs.Laws.Readable as evaluable
 use Rattle.diagrams.specs.declared.Diagram.{Diagram}
-use Rattle.diagrams.specs.Diagram.{foundOf, assertionsOf, diagramOf, Loaded, Readable, edgeOf}
+use Rattle.diagrams.specs.Diagram.{foundOf, assertionsOf, diagramOf, Loaded, State, stateAt, stateNumber, edgeOf}
 use Rattle.diagrams.specs.Truth.{claimedAt, qNumber, qAt}
 use Rattle.diagrams.specs.System.{stepAt, justOf}
 use Rattle.diagrams.specs.Promise.{EdgeRight, DoubleTransition, TruthRight, Promise}
@@ -46,14 +50,6 @@ find-refuses file number place e = let r = read-refuses file number place e in (
 
 pub diagram-loaded : (file : List ℕ) (o : Outline) → foundOf file ≡ Reading.Found o → Loaded file (diagramOf file o)
 diagram-loaded file o e = record { outline = o; found = e; is = refl }
-
-pub readable-loaded : (file : List ℕ) (g : Diagram) → Readable file g → Loaded file g
-unfolding Readable
-readable-loaded file g r = r
-
-pub loaded-readable : (file : List ℕ) (g : Diagram) → Loaded file g → Readable file g
-unfolding Readable
-loaded-readable file g r = r
 
 -- ---- of the parts that reading found
 module _ (file : List ℕ) (o : Outline) (r : readOf file ≡ Reading.Found o) where
@@ -195,3 +191,20 @@ loaded-once file g h a b =
 
 pub promised : (file : List ℕ) (g : Diagram) → Loaded file g → Promise file g
 promised file g r = subst (Promise file) (sym (r .is)) (promise file (r .outline) (found-read file (r .outline) (r .found)))
+
+-- ---- states by their numbers
+pub state-at : (g : Diagram) (n : ℕ) → stateAt g n ≡ stateOf (g .low) (g .high) n
+unfolding stateAt
+state-at g n = refl
+
+module _ (file : List ℕ) (g : Diagram) (r : Loaded file g) where
+  pub state-numbered : (n : ℕ) → n < g .states → State g (stateAt g n) × (stateNumber g (stateAt g n) ≡ n)
+  unfolding stateAt stateNumber
+  state-numbered n l =
+      let p = promised file g r in
+      let k = rw (p .counted) at l in
+      (state-within (p .ranges) n k, number-of-state (p .ranges) n k)
+
+  pub number-state : (state : List ℤ) → State g state → (stateNumber g state < g .states) × (stateAt g (stateNumber g state) ≡ state)
+  unfolding stateAt stateNumber
+  number-state state s = (rw (promised file g r .counted) (number-below s), state-of-number s)

@@ -1,49 +1,78 @@
 -- What the check promises beyond its definition, on one page. That every call ends in an answer (C12.8) is what its contract means.
 --     report-long                 a buffer of 32 bytes or more changes in its first 32 only (`report-short` for others: Laws/Report) (C14.6)
+--     read-or-not                 a file is readable, and judged by its conditions, or refused before them, with a number of 2 or more and a small
+--                                 place (C11.7)
 --     check-decides               with room for a report, a readable file is accepted exactly if each condition holds in every state; otherwise
 --                                 the first untrue condition is named with the lowest-numbered state that breaks it; the tests made (C12.9, C12.10)
 --     check-claims                what an accepted file claims is true (C12.11)
 -- Assumes nothing.
 use mathlib.Core.Path.{_≡_, refl, sym, _∙_}
+use mathlib.Core.Logic.{_⊎_, inl, inr}
 use mathlib.Core.List.{List}
 use Prim.Native.Nat.{ℕ, _<_, _≤_}
 use native.Mathlib.Decide.{ℕ-discrete, decLt}
 use native.Mathlib.Omega.{arith}
 use lib.ListN.{length, drop}
+use Rattle.truths.proofs.Laws.Truth.{by-test}
 use Rattle.states.proofs.Laws.State.{within-length}
 use Rattle.diagrams.specs.declared.Diagram.{Diagram}
 use Rattle.shapes.specs.declared.Reading.{Reading}
 use Rattle.diagrams.specs.Diagram.{foundOf, diagramOf, Loaded}
-use Rattle.diagrams.proofs.Laws.Diagram.{find-refuses, diagram-loaded, readable-loaded, loaded-readable, promised}
+use Rattle.diagrams.specs.Start.{startsOf, Readable}
+use Rattle.diagrams.proofs.Laws.Diagram.{find-refuses, diagram-loaded, promised}
 use Rattle.report.specs.declared.Verdict.{Verdict}
 use Rattle.report.specs.Report.{reportOf}
 use Rattle.report.proofs.Laws.Report.{report-rest}
-use Rattle.verdicts.specs.Verdict.{judgedOf, verdictOf, checkOf}
-use Rattle.verdicts.proofs.Laws.Verdict.{check-short, check-long, verdict-found, verdict-refused}
+use Rattle.verdicts.specs.Verdict.{judgedOf, refusedOf, verdictOf, checkOf}
+use Rattle.verdicts.proofs.Laws.Verdict.{check-short, check-long, verdict-refused, verdict-startless, verdict-judged}
 use Rattle.deciding.specs.Decision.{Decides}
 use Rattle.deciding.proofs.Laws.Decision.{number-is, accepted, accepts, refused, judges}
 use Rattle.soundness.specs.System.{Claim}
 use Rattle.soundness.proofs.Laws.Sound.{sound}
+use Rattle.soundness.proofs.Laws.System.{readable-starts}
 
--- the verdict of a diagram is that on its file
-judged : (file : List ℕ) (g : Diagram) → Loaded file g → verdictOf file ≡ judgedOf file g
-judged file g r = rw (r .is) (verdict-found file (r .outline) (r .found))
+-- ---- a file is readable, or refused before any condition
+pub record Read (file : List ℕ) : Type 0 where
+  pub diagram : Diagram
+  pub readable : Readable file diagram
+  pub is : verdictOf file ≡ judgedOf file diagram
+
+pub record Unread (file : List ℕ) : Type 0 where
+  pub number : ℕ
+  pub place : ℕ
+  pub from : 2 ≤ number
+  pub within : place ≤ 4096
+  pub is : verdictOf file ≡ refusedOf number place
+
+pub read-or-not : (file : List ℕ) → Read file ⊎ Unread file
+read-or-not file = found (foundOf file) refl
+  where
+    found : (x : Reading) → foundOf file ≡ x → Read file ⊎ Unread file
+    found (Reading.Found o) is =
+        let g = diagramOf file o in
+        let r = diagram-loaded file o is in
+        by-test (startsOf file g) (λ t. Read file ⊎ Unread file)
+        (λ s. inl (record { diagram = g; readable = record { loaded = r; starts = s }; is = verdict-judged file g r s }))
+        (λ s. inr (record { number = 20; place = 0; from = omega arith; within = omega arith; is = verdict-startless file g r s }))
+    found (Reading.Refused number place) is =
+        let small = find-refuses file number place is in
+        inr (record { number = number; place = place; from = small .0; within = small .1; is = verdict-refused file number place is })
 
 -- ---- what an accepted file claims
 accepted-claims : (file : List ℕ) → verdictOf file .number ≡ 0 → Claim file
-accepted-claims file e = go (foundOf file) refl
+accepted-claims file e = go (read-or-not file)
   where
-    go : (x : Reading) → foundOf file ≡ x → Claim file
-    go (Reading.Found o) is =
-        let g = diagramOf file o in
-        let r = diagram-loaded file o is in
+    go : Read file ⊎ Unread file → Claim file
+    go (inl x) =
+        let g = x .diagram in
+        let r = x .readable .loaded in
         record {
           diagram = g;
-          readable = loaded-readable file g r;
-          claimed = sound file g r (accepted file g r (number-is (sym (judged file g r)) ∙ e));
+          readable = x .readable;
+          claimed = sound file g r (accepted file g r (number-is (sym (x .is)) ∙ e));
+          starts = readable-starts file g (x .readable);
         }
-    go (Reading.Refused number place) is =
-        absurd (omega (arith, number-is (sym (verdict-refused file number place is)) ∙ e, find-refuses file number place is .0))
+    go (inr x) = absurd (omega (arith, number-is (sym (x .is)) ∙ e, x .from))
 
 module _ (file : List ℕ) (room : ℕ) where
   pub check-claims : {v : Verdict} → v ≡ checkOf file room → v .number ≡ 0 → Claim file
@@ -59,9 +88,8 @@ module _ (file : List ℕ) (room : ℕ) where
   -- ---- what the verdict decides
   pub check-decides : {v : Verdict} → v ≡ checkOf file room → Decides file room v
   check-decides e g r l =
-      let h = readable-loaded file g r in
-      let is : checkOf file room ≡ judgedOf file g = check-long file l ∙ judged file g h in
-      rw (e, is) (judges file g h)
+      let is : checkOf file room ≡ judgedOf file g = check-long file l ∙ verdict-judged file g (r .loaded) (r .starts) in
+      rw (e, is) (judges file g (r .loaded))
 
 -- ---- the buffer
 -- a verdict has twelve values
@@ -73,11 +101,11 @@ judged-values file g r = go (ℕ-discrete (judgedOf file g .number) 0)
     go (no n) = within-length (refused file g r n .state) .0 ∙ promised file g r .long
 
 verdict-values : (file : List ℕ) → length (verdictOf file .values) ≡ 12
-verdict-values file = go (foundOf file) refl
+verdict-values file = go (read-or-not file)
   where
-    go : (x : Reading) → foundOf file ≡ x → length (verdictOf file .values) ≡ 12
-    go (Reading.Found o) is = let r = diagram-loaded file o is in rw (judged file (diagramOf file o) r) (judged-values file (diagramOf file o) r)
-    go (Reading.Refused number place) is = rw (verdict-refused file number place is) refl
+    go : Read file ⊎ Unread file → length (verdictOf file .values) ≡ 12
+    go (inl x) = rw (x .is) (judged-values file (x .diagram) (x .readable .loaded))
+    go (inr x) = rw (x .is) refl
 
 check-values : (file : List ℕ) (room : ℕ) → length (checkOf file room .values) ≡ 12
 check-values file room = go (decLt room 32)

@@ -4,6 +4,7 @@
 --     step-run            a state and its successor are one
 --     state-run           and a state by itself, whichever it is (C6.3, C6.7)
 --     idle-run            and a state for ever
+--     readable-starts     so a readable file has a run from a starting state (C7.10)
 -- Assumes nothing.
 use mathlib.Core.Path.{refl, _∙_}
 use mathlib.Core.Logic.{inl, inr}
@@ -14,12 +15,15 @@ use lib.Dec.{T}
 use lib.IntN.{ℤ}
 use Rattle.diagrams.specs.declared.Diagram.{Diagram}
 use Rattle.diagrams.specs.Diagram.{State}
+use Rattle.diagrams.specs.Start.{Readable}
+use Rattle.diagrams.proofs.Laws.Start.{readable-starting}
 use Rattle.diagrams.specs.System.{nextState}
 use Rattle.diagrams.proofs.Laws.System.{enabled-and, successor-state as successor-within}
 use Rattle.runs.specs.Run.{Run, finite, endless, Position, at, enabled, Next, IsRun}
+use Rattle.runs.specs.Claim.{Starts}
 use Rattle.runs.proofs.Laws.Run.{earlier}
 use Rattle.soundness.specs.System.{systemOf}
-use Rattle.truths.proofs.Laws.Truth.{is-true}
+use Rattle.truths.proofs.Laws.Truth.{is-true, so-true}
 
 module _ (file : List ℕ) (g : Diagram) (s : List ℤ) (w : State g s) where
   pub state-run : IsRun (systemOf file g) (finite s [])
@@ -60,3 +64,8 @@ module _ (file : List ℕ) (g : Diagram) where
           → Next (systemOf file g) (at (finite s (nextState file g t s ∷ [])) n) (at (finite s (nextState file g t s ∷ [])) (suc n))
       steps zero p = inr (t, l, (e, refl))
       steps (suc n) p = absurd (omega arith)
+
+pub readable-starts : (file : List ℕ) (g : Diagram) → Readable file g → Starts (systemOf file g)
+readable-starts file g r =
+    let s = readable-starting file g r in
+    (finite (s .state) [], state-run file g (s .state) (s .within), so-true _ (s .holds))

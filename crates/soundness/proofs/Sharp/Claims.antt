@@ -1,6 +1,7 @@
 -- What a file claims is no weaker than C7.9 says, and no stronger: small files with the system of Files.antt, each with a claim that is false of its runs,
 -- or true. By a weaker definition of `Claimed` a false claim would be true, by a stronger one a true claim false.
 --                           claim     the clause that it protects
+--     begins                          of any such file: a run of its system begins in a state where its start is true (C7.10)
 --     no-kind               false     of any file: there is no other kind (C1.10)
 --     invariance-q          false     q holds at each position, from a starting state (C7.1)
 --     invariance-range      false     values in range, in each node from 0 to the last, of each transition (C7.8)
@@ -26,15 +27,20 @@ use lib.Dec.{T, T-not, lit<, lit≤}
 use lib.IntN.{ℤ}
 use Rattle.diagrams.specs.declared.Diagram.{Diagram}
 use Rattle.diagrams.proofs.Files.{double, plain, true}
-use Rattle.diagrams.specs.Truth.{nodeHolds, pHolds, qHolds}
-use Rattle.runs.specs.Run.{Run, finite, Just, KJust, at}
+use Rattle.diagrams.specs.Truth.{startHolds, nodeHolds, pHolds, qHolds}
+use Rattle.runs.specs.Run.{Run, finite, IsRun, Just, KJust, at}
 use Rattle.runs.specs.Claim.{Waiting}
 use Rattle.shapes.specs.declared.Claim.{Claim as Kind}
 use Rattle.soundness.specs.System.{systemOf, Claimed, Claim}
 use Rattle.soundness.proofs.Sharp.Computing.{claiming}
 use Rattle.diagrams.proofs.Values.{v, state}
 use Rattle.soundness.proofs.Laws.System.{state-run, step-run, idle-run}
-use Rattle.soundness.proofs.Sharp.Files.{Case, is, invariance, wait-for, chain, file, diagram, claims, refuted}
+use Rattle.soundness.proofs.Sharp.Files.{Case, Reads, is, invariance, wait-for, chain, file, diagram, claims, refuted, started}
+
+-- ---- a start
+pub begins : (c : Case) → Reads c → (x : Claim (file c))
+    → (r : Run (List ℤ)) × IsRun (systemOf (file c) (diagram c)) r × T (startHolds (file c) (diagram c) (at r 0))
+begins c r x = started c r x
 
 -- ---- kinds
 -- of another kind nothing is true
@@ -69,7 +75,7 @@ trivial = invariance (true ∷ []) ((plain 0x21 ∷ []) ∷ [])
 
 pub invariance-node : Claim (file trivial)
 unfolding claiming
-invariance-node = claims trivial refl (λ r run begins n h. tt, λ r run n h i from l y. absurd (nowhere i l (at r n) y))
+invariance-node = claims trivial refl refl (λ r run begins n h. tt, λ r run n h i from l y. absurd (nowhere i l (at r n) y))
   where
     nowhere : (i : ℕ) → i < 1 → (s : List ℤ) → T (nodeHolds (file trivial) (diagram trivial) i s) → ⊥
     nowhere zero l s y = y
@@ -115,7 +121,7 @@ numbered = wait-for (is 0) (is 2 ∷ (true ∷ []) ∷ []) (is 2 ∷ (plain 0x21
 
 pub wait-for-numbers : Claim (file numbered)
 unfolding claiming
-wait-for-numbers = claims numbered refl (
+wait-for-numbers = claims numbered refl refl (
   record {
     numbered = λ r run n h y.
         record {
@@ -141,7 +147,7 @@ reached = wait-for (is 2) (is 2 ∷ []) (is 2 ∷ [])
 
 pub wait-for-goal : Claim (file reached)
 unfolding claiming
-wait-for-goal = claims reached refl (
+wait-for-goal = claims reached refl refl (
   record {
     numbered = λ r run n h y.
         record {
@@ -212,7 +218,7 @@ there = chain (is 2) (is 2) (is 2 ∷ []) []
 
 pub chain-goal : Claim (file there)
 unfolding claiming
-chain-goal = claims there refl (
+chain-goal = claims there refl refl (
   record {
     bounded = λ k one σ run just n y. (
       0,

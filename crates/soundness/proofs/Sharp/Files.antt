@@ -1,19 +1,23 @@
 -- One small system, and the files that claim something of it.
 --     Case, file, outline, diagram     a claim and its diagram, behind the system's records
 --     invariance, wait-for, chain      the three kinds
---     claims, refuted                  a file has one diagram: what it claims is what is claimed with that, true or false
+--     claims, refuted, started         a file has one diagram: what it claims is what is claimed with that, true or false; so is its start
 -- Assumes nothing.
 use mathlib.Core.Path.{_≡_, subst}
+use mathlib.Core.Bool
 use mathlib.Core.List.{List, [], _∷_, _++_, map, flatten}
 use Prim.Native.Nat.{ℕ, _+_}
 use lib.ListN.{length}
 use Rattle.diagrams.specs.declared.Diagram.{Diagram}
 use Rattle.shapes.specs.declared.Reading.{Reading}
 use Rattle.diagrams.specs.Diagram.{foundOf, diagramOf, Loaded}
-use Rattle.diagrams.proofs.Laws.Diagram.{diagram-loaded, readable-loaded, loaded-readable, loaded-once}
+use Rattle.diagrams.specs.Start.{startsOf, Readable}
+use Rattle.diagrams.proofs.Laws.Diagram.{diagram-loaded, loaded-once}
 use Rattle.diagrams.proofs.Files
 use Rattle.diagrams.proofs.Files.{Outline, range, start, transition, assignment, property, node, constant, variable, plain, true}
-use Rattle.soundness.specs.System.{Claimed, Claim}
+use Rattle.runs.specs.Claim.{Starts}
+use Rattle.soundness.specs.System.{systemOf, Claimed, Claim}
+use Rattle.soundness.proofs.Laws.System.{readable-starts}
 
 -- ---- the system
 -- v is n
@@ -74,10 +78,18 @@ Reads c = foundOf (file c) ≡ Reading.Found (outline c)
 loaded : (c : Case) → Reads c → Loaded (file c) (diagram c)
 loaded c r = diagram-loaded (file c) (outline c) r
 
-pub claims : (c : Case) → Reads c → Claimed (file c) (diagram c) (diagram c .claim) → Claim (file c)
-claims c r x = record { diagram = diagram c; readable = loaded-readable (file c) (diagram c) (loaded c r); claimed = x }
+-- the diagram of what a file claims is its own
+same-diagram : (c : Case) → Reads c → (x : Claim (file c)) → x .diagram ≡ diagram c
+same-diagram c r x = loaded-once (file c) (x .diagram) (diagram c) (x .readable .loaded) (loaded c r)
+
+pub claims : (c : Case) → Reads c → startsOf (file c) (diagram c) ≡ Bool.true → Claimed (file c) (diagram c) (diagram c .claim) → Claim (file c)
+claims c r s x =
+    let readable : Readable (file c) (diagram c) = record { loaded = loaded c r; starts = s } in
+    record { diagram = diagram c; readable = readable; claimed = x; starts = readable-starts (file c) (diagram c) readable }
 
 pub refuted : (c : Case) → Reads c → (Claimed (file c) (diagram c) (diagram c .claim) → ⊥) → Claim (file c) → ⊥
-refuted c r untrue x =
-    let e = loaded-once (file c) (x .diagram) (diagram c) (readable-loaded (file c) (x .diagram) (x .readable)) (loaded c r) in
-    untrue (subst (λ (g : Diagram). Claimed (file c) g (g .claim)) e (x .claimed))
+refuted c r untrue x = untrue (subst (λ (g : Diagram). Claimed (file c) g (g .claim)) (same-diagram c r x) (x .claimed))
+
+-- a file's claim has a run of its own system
+pub started : (c : Case) → Reads c → Claim (file c) → Starts (systemOf (file c) (diagram c))
+started c r x = subst (λ (g : Diagram). Starts (systemOf (file c) g)) (same-diagram c r x) (x .starts)

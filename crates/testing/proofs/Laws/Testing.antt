@@ -1,6 +1,7 @@
 -- Laws of prepared tests.
 --     prepared      the test of a condition says what the condition says
 --     test-fits     what it speaks of can be evaluated at every state
+--     denial-says, denial-fits             the test that a truth is false says so; it can be evaluated where the truth can
 --     passes-vacuous, passes-concluded     a test passes where its premise does not hold, else by its conclusion
 --     steps-apart     a conclusion that speaks of a transition is another than one that doesn't
 -- Assumes nothing.
@@ -13,7 +14,7 @@ use lib.ListN.{length, getD, take, replicate, List·getD-append}
 use lib.Seq.{take-append-seam}
 use lib.IntN.{ℤ}
 use Rattle.truths.specs.Truth.{implies}
-use Rattle.truths.proofs.Laws.Truth.{implies-true, implies-false, implies-both, implies-own}
+use Rattle.truths.proofs.Laws.Truth.{implies-true, implies-false, implies-both, implies-own, implies-or}
 use Rattle.states.specs.State.{Within}
 use Rattle.expressions.specs.Expression.{holdsOf}
 use Rattle.evaluating.specs.Step.{successorOf, enabledOf}
@@ -34,7 +35,7 @@ use Rattle.conditions.proofs.Laws.Condition.{Parts, listed-parts}
 use Rattle.testing.specs.Holding.{someNode, someTarget, stepLeads, conditionHolds}
 use Rattle.testing.specs.declared.Conclusion.{Conclusion}
 use Rattle.testing.specs.declared.Test.{Test}
-use Rattle.testing.specs.Testing.{marksOf, chosenFrom, targetsOf, chosenOf, preparedOf, testOf, someHolds, concludesOf, passesOf}
+use Rattle.testing.specs.Testing.{marksOf, chosenFrom, targetsOf, chosenOf, preparedOf, denialOf, testOf, someHolds, concludesOf, passesOf}
 use Rattle.testing.specs.Testing.{FitsEverywhere, TestFits}
 use Rattle.testing.proofs.Laws.Targets.{chosen-most, chosen-each, some-node, some-reached}
 
@@ -68,6 +69,16 @@ module _ (lows highs : List ℤ) (file : List ℕ) (premise transition : ℕ) (l
         targets = λ i l. rw (List·getD-append list (replicate (32 - length list) 0) 0 i l) (t i l);
         transition = f;
       }
+
+module _ (lows highs : List ℤ) (file : List ℕ) (at : ℕ) where
+  pub denial-says : (state : List ℤ) → passesOf lows highs file (denialOf at) state ≡ not (holdsOf file at state)
+  unfolding denialOf someHolds
+  denial-says state =
+      some-passes lows highs file at 0 [] state ∙ sym (implies-or (holdsOf file at state) false) ∙ or-false (not (holdsOf file at state))
+
+  pub denial-fits : FitsEverywhere lows highs file at → TestFits lows highs file (denialOf at)
+  unfolding denialOf
+  denial-fits f = places-fit lows highs file at 0 [] Conclusion.SomeTarget f (omega arith) (λ i l. absurd (omega arith)) (λ u. absurd (u refl))
 
 module _ (file : List ℕ) (g : Diagram) (r : Loaded file g) where
   abbrev lows : List ℤ

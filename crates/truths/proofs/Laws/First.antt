@@ -1,13 +1,17 @@
 -- Laws of the search for the first number that fails a test.
 --     first-is                             a number that fails behind others that pass is the first; so is n where all below it pass
 --     first-passes, first-fails            the numbers below it pass; it fails itself where it is below n
+--     first-any                            one below n passes exactly if one is the first to fail the test that it doesn't
 -- Assumes nothing.
 use mathlib.Core.Path.{_≡_, refl, sym, _∙_}
-use mathlib.Core.Bool.{Bool, true, false, cond, false≢true}
+use mathlib.Core.Bool.{Bool, true, false, not, cond, false≢true}
 use Prim.Native.Nat.{ℕ, zero, suc, _+_, _≤_, _<_}
 use native.Mathlib.Decide.{decLt}
 use native.Mathlib.Omega.{arith}
-use Rattle.truths.specs.Search.{firstFailingFrom, firstFailing}
+use borrow.Author.Tests.{lt-ltb, le-ltb, not-true, not-false}
+use lib.Dec.{ltb}
+use Rattle.truths.specs.Search.{any, firstFailingFrom, firstFailing}
+use Rattle.truths.proofs.Laws.Any.{any-below, none-passes}
 
 module _ (test : ℕ → Bool) where
   from-is : (n at r : ℕ) → at ≤ r → r ≤ at + n → ((k : ℕ) → at ≤ k → k < r → test k ≡ true) → (r < at + n → test r ≡ false) → firstFailingFrom test n at ≡ r
@@ -57,3 +61,16 @@ module _ (test : ℕ → Bool) where
   pub first-fails : (n : ℕ) → firstFailing test n < n → test (firstFailing test n) ≡ false
   unfolding firstFailing
   first-fails n h = from-fails n 0 (omega arith)
+
+pub first-any : (test : ℕ → Bool) (n : ℕ) → any test n 0 ≡ ltb (firstFailing (λ k. not (test k)) n) n
+first-any test n = below-or-not (decLt first n)
+  where
+    first : ℕ
+    first = firstFailing (λ k. not (test k)) n
+
+    fails : (k : ℕ) → k < first → test k ≡ false
+    fails k l = not-true (test k) (first-passes (λ k. not (test k)) n k l)
+
+    below-or-not : Dec (first < n) → any test n 0 ≡ ltb first n
+    below-or-not (yes l) = rw (lt-ltb first n l) (any-below test n first l (not-false (test first) (first-fails (λ k. not (test k)) n l)))
+    below-or-not (no l) = rw (le-ltb first n (omega arith)) (none-passes test n 0 (λ k a b. fails k (omega arith)))

@@ -1,11 +1,11 @@
 -- Laws of the verdict on a readable file.
---     state-numbered, number-state     each number below that of the states has a state, and each state such a number: they determine each other
 --     true-at, true-holds              a condition is true exactly if it holds at every number's state
 --     Breaks, breaks-first             the first state that breaks a condition; one that is not true has it
 --     judged-broken, judged-whole      the verdict where a condition is broken, those before it true; and where none is (C12.3, C12.2)
 --     Broken, Whole, judged-cases      it is one of these two
 --     check-short, check-long          a report buffer of under 32 bytes is refused with 1; with a longer one the verdict on the file is given (C10.1)
---     verdict-found, verdict-refused   that of a file whose parts are found, and of one that reading refuses
+--     verdict-refused                  that of a file that reading refuses
+--     verdict-startless, verdict-judged     of one whose parts are found, by whether there is a starting state (C10.20)
 -- Assumes nothing.
 use mathlib.Core.Path.{_≡_, refl}
 use mathlib.Core.Logic.{_⊎_, inl, inr}
@@ -19,13 +19,12 @@ use lib.Dec.{ltb}
 use Rattle.shapes.specs.declared.Outline.{Outline}
 use Rattle.diagrams.specs.declared.Diagram.{Diagram}
 use Rattle.shapes.specs.declared.Reading.{Reading}
-use Rattle.diagrams.specs.Diagram.{foundOf, diagramOf, Loaded, State}
-use Rattle.diagrams.proofs.Laws.Diagram.{promised}
-use Rattle.states.proofs.Laws.Number.{number-below, state-of-number, number-of-state, state-within}
+use Rattle.diagrams.specs.Diagram.{foundOf, Loaded, stateAt}
+use Rattle.diagrams.specs.Start.{startsOf}
+use Rattle.diagrams.proofs.Laws.Start.{start-follows, start-refused}
 use Rattle.conditions.specs.Condition.{totalOf, conditionAt}
 use Rattle.testing.specs.Holding.{conditionHolds}
-use Rattle.verdicts.specs.Verdict.{stateAt, stateNumber}
-use Rattle.verdicts.specs.Verdict.{unnamedOf, namedOf, breakingOf, isTrue, brokenOf, brokenAt, testsOf, judgedOf, verdictOf, checkOf}
+use Rattle.verdicts.specs.Verdict.{unnamedOf, namedOf, breakingOf, isTrue, brokenOf, brokenAt, testsOf, judgedOf, refusedOf, verdictOf, checkOf}
 use Rattle.conditions.specs.declared.Condition.{Condition}
 use Rattle.report.specs.declared.Verdict.{Verdict}
 use Rattle.truths.proofs.Laws.First.{first-is, first-passes, first-fails}
@@ -122,21 +121,9 @@ module _ (file : List ℕ) (g : Diagram) where
           let all : (k : ℕ) → k < total → isTrue file g (conditionAt file g k) ≡ true = λ k l. before k (lt-of-lt-of-le l (ltb-false _ _ e)) in
           inr (record { all = all; is = judged-whole all })
 
-module _ (file : List ℕ) (g : Diagram) (r : Loaded file g) where
-  pub state-numbered : (n : ℕ) → n < g .states → State g (stateAt g n) × (stateNumber g (stateAt g n) ≡ n)
-  unfolding stateAt stateNumber
-  state-numbered n l =
-      let p = promised file g r in
-      let k = rw (p .counted) at l in
-      (state-within (p .ranges) n k, number-of-state (p .ranges) n k)
-
-  pub number-state : (state : List ℤ) → State g state → (stateNumber g state < g .states) × (stateAt g (stateNumber g state) ≡ state)
-  unfolding stateAt stateNumber
-  number-state state s = (rw (promised file g r .counted) (number-below s), state-of-number s)
-
 -- ---- any file
 module _ (file : List ℕ) where
-  pub check-short : {room : ℕ} → room < 32 → checkOf file room ≡ unnamedOf 1 0 0
+  pub check-short : {room : ℕ} → room < 32 → checkOf file room ≡ refusedOf 1 0
   unfolding checkOf
   check-short l = rw (lt-ltb _ _ l)
 
@@ -144,10 +131,15 @@ module _ (file : List ℕ) where
   unfolding checkOf
   check-long l = rw (le-ltb _ _ l)
 
-  pub verdict-found : (o : Outline) → foundOf file ≡ Reading.Found o → verdictOf file ≡ judgedOf file (diagramOf file o)
-  unfolding verdictOf
-  verdict-found o is = rw is
-
-  pub verdict-refused : (number place : ℕ) → foundOf file ≡ Reading.Refused number place → verdictOf file ≡ unnamedOf number place 0
+  pub verdict-refused : (number place : ℕ) → foundOf file ≡ Reading.Refused number place → verdictOf file ≡ refusedOf number place
   unfolding verdictOf
   verdict-refused number place is = rw is
+
+  module _ (g : Diagram) (r : Loaded file g) where
+    pub verdict-startless : startsOf file g ≡ false → verdictOf file ≡ refusedOf 20 0
+    unfolding verdictOf
+    verdict-startless e = rw (r .found, ← (r .is)) (start-refused refusedOf file g (judgedOf file g) e)
+
+    pub verdict-judged : startsOf file g ≡ true → verdictOf file ≡ judgedOf file g
+    unfolding verdictOf
+    verdict-judged e = rw (r .found, ← (r .is)) (start-follows refusedOf file g (judgedOf file g) e)

@@ -11,18 +11,17 @@ use borrow.Author.Tests.{le-leb, lt-leb}
 use lib.IntN.{ℤ}
 use lib.ListN.{length}
 use Rattle.states.specs.State.{Within}
-use Rattle.states.specs.Ranges.{Ranges, Idle}
+use Rattle.states.specs.Ranges.{Ranges}
 use Rattle.states.specs.Number.{countOf, stateOf}
 use Rattle.states.specs.Advance.{advanceOf}
-use Rattle.states.proofs.Laws.Number.{first-state, advance-next}
 use Rattle.expressions.specs.Spans.{spansOf, Spans}
 use Rattle.expressions.proofs.Laws.Span.{spans-right}
 use Rattle.diagrams.specs.declared.Diagram.{Diagram}
 use Rattle.shapes.specs.declared.Outline.{Outline}
 use Rattle.shapes.specs.declared.Reading.{Reading}
-use Rattle.diagrams.specs.Diagram.{foundOf, diagramOf, Loaded, State}
+use Rattle.diagrams.specs.Diagram.{foundOf, diagramOf, Loaded, stateAt}
 use Rattle.diagrams.specs.Promise.{Promise}
-use Rattle.diagrams.proofs.Laws.Diagram.{promised}
+use Rattle.diagrams.proofs.Laws.Diagram.{promised, state-at, state-numbered}
 use Rattle.conditions.specs.Condition.{totalOf, conditionAt, Listed, nodeNumber, transitionNumber}
 use Rattle.conditions.specs.declared.Condition.{Condition}
 use Rattle.conditions.proofs.Laws.Condition.{condition-listed, names-small, total-most}
@@ -30,14 +29,12 @@ use Rattle.testing.specs.Holding.{conditionHolds}
 use Rattle.testing.specs.Testing.{testOf, passesOf, TestFits}
 use Rattle.testing.specs.declared.Test.{Test}
 use Rattle.testing.proofs.Laws.Testing.{prepared, test-fits}
-use Rattle.verdicts.specs.Verdict.{stateAt, unnamedOf, namedOf, isTrue, judgedOf, singleJudged}
+use Rattle.verdicts.specs.Verdict.{unnamedOf, namedOf, isTrue, judgedOf, singleJudged}
 use Rattle.verdicts.specs.declared.Single.{Single}
-use Rattle.boxes.specs.Box.{box}
-use Rattle.searching.specs.declared.Search.{Search}
-use Rattle.searching.specs.declared.Skipped.{Skipped}
-use Rattle.searching.specs.Search.{skipTo, skipOf}
-use Rattle.searching.proofs.Laws.Search.{Passed, skipped}
-use Rattle.verdicts.proofs.Laws.Verdict.{state-numbered, true-at, Breaks, judged-broken, judged-whole}
+use Rattle.searching.specs.declared.scan.Scan.{Scan}
+use Rattle.searching.specs.Scan.{searchOf, scanAt, onwardOf}
+use Rattle.searching.proofs.Laws.Scan.{StatesPassed, pass-begin, pass-within, pass-here, pass-more, onward-asks, pass-onward}
+use Rattle.verdicts.proofs.Laws.Verdict.{true-at, Breaks, judged-broken, judged-whole}
 
 -- ---- what is asked before the search
 module _ (file : List ℕ) (g : Diagram) (r : Loaded file g) where
@@ -72,48 +69,11 @@ pub record Searched (file : List ℕ) (g : Diagram) (number : ℕ) : Type 0 wher
   pub passed : number ≤ totalOf file g
   pub held : (k : ℕ) → k < number → isTrue file g (conditionAt file g k) ≡ true
 
--- ---- the loops
-module _ (file : List ℕ) (g : Diagram) where
-  -- n states are passed, in each of which the test holds; `state` is the next, as long as there is one
-  pub record StatesPassed (test : List ℤ → Bool) (state : List ℤ) (n : ℕ) : Type 0 where
-    pub passed : n ≤ g .states
-    pub here : n < g .states → state ≡ stateAt g n
-    pub held : (k : ℕ) → k < n → test (stateAt g k) ≡ true
-
-  -- the search was left at state n, the first that breaks the condition
-  abbrev pub Broke : ℕ → List ℤ → ℕ → Type 0
-  Broke number state n = (state ≡ stateAt g n) × Breaks file g (conditionAt file g number) n
-
--- ---- one state after the other
-module _ (file : List ℕ) (g : Diagram) (r : Loaded file g) where
-  pub pass-begin : {test : List ℤ → Bool} → StatesPassed file g test (g .low) 0
-  unfolding stateAt
-  pass-begin = record { passed = omega arith; here = λ l. sym (first-state (promised file g r .ranges)); held = λ k l. absurd (omega arith) }
-
-  module _ {n : ℕ} (l : n < g .states) where
-    pub at-within : State g (stateAt g n)
-    at-within = state-numbered file g r n l .0
-
-    module _ {test : List ℤ → Bool} {state : List ℤ} (p : StatesPassed file g test state n) where
-      pub pass-within : State g state
-      pass-within = rw (p .here l) at-within
-
-      pub pass-here : {b : Bool} → test state ≡ b → test (stateAt g n) ≡ b
-      pass-here f = rw (p .here l) at f
-
-      pub pass-more : test state ≡ true → {after : List ℤ} → after ≡ advanceOf (g .low) (g .high) state → StatesPassed file g test after (n + 1)
-      unfolding stateAt
-      pass-more f e =
-          record {
-            passed = omega arith;
-            here = λ k. e ∙ rw (p .here l) (advance-next (promised file g r .ranges) n (rw (promised file g r .counted) at k));
-            held = below-more _ n (p .held) (pass-here f);
-          }
+-- the search was left at state n, the first that breaks the condition
+abbrev pub Broke : List ℕ → Diagram → ℕ → List ℤ → ℕ → Type 0
+Broke file g number state n = (state ≡ stateAt g n) × Breaks file g (conditionAt file g number) n
 
 -- ---- with what is looked up once
-abbrev pub searchOf : Diagram → Test → Search
-searchOf g test = record { ranges = box (g .low) (g .high); test = test }
-
 pub record Ready (file : List ℕ) (g : Diagram) (total : ℕ) : Type 0 where
   pub loaded : Loaded file g
   pub total-is : total ≡ totalOf file g
@@ -140,14 +100,13 @@ module _ {file : List ℕ} {g : Diagram} {total : ℕ} (h : Ready file g total) 
   state-asks l = (keeps .ranges, rw (← (keeps .counted)) l)
 
   state-is : (n : ℕ) {state : List ℤ} → state ≡ stateOf (g .low) (g .high) n → state ≡ stateAt g n
-  unfolding stateAt
-  state-is n e = e
+  state-is n e = e ∙ sym (state-at g n)
 
   -- ---- a condition, and its tests at the states
   abbrev pub holdsAt : ℕ → List ℤ → Bool
   holdsAt number state = conditionHolds file g (conditionAt file g number) state
 
-  pub passed-begin : (number : ℕ) → StatesPassed file g (holdsAt number) (g .low) 0
+  pub passed-begin : (number : ℕ) → StatesPassed g (holdsAt number) (g .low) 0
   passed-begin number = pass-begin file g (h .loaded)
 
   module _ {number : ℕ} (below : number < total) {c : Condition} (at : c ≡ conditionAt file g number) where
@@ -170,58 +129,38 @@ module _ {file : List ℕ} {g : Diagram} {total : ℕ} (h : Ready file g total) 
       -- one test
       module _ {n : ℕ} (l : n < g .states) {state : List ℤ} (e : state ≡ stateOf (g .low) (g .high) n) where
         pub single-asks : Within (g .low) (g .high) state × TestFits (g .low) (g .high) file test
-        single-asks = (rw (state-is n e) (at-within file g (h .loaded) l), test-asked)
+        single-asks = (rw (state-is n e) (state-numbered file g (h .loaded) n l .0), test-asked)
 
         pub single-answers : {b : Bool} → b ≡ passesOf (g .low) (g .high) file test state → singleJudged file g number n ≡ cond b Single.Holds Single.Fails
         single-answers f =
             tested-whole file g number n (rw (← (h .total-is)) below) l (rw (state-is n e) at (f ∙ passes-is state))
 
       -- one test after the other
-      module _ {state : List ℤ} {n : ℕ} (p : StatesPassed file g (holdsAt number) state n) (l : n < g .states) where
+      module _ {state : List ℤ} {n : ℕ} (p : StatesPassed g (holdsAt number) state n) (l : n < g .states) where
         pub passed-asks : Within (g .low) (g .high) state × TestFits (g .low) (g .high) file test
-        passed-asks = (pass-within file g (h .loaded) l p, test-asked)
-
-        pub advance-asks : (g .vars ≤ 12) × Idle (g .vars) (g .low) (g .high) state
-        advance-asks = (keeps .variables .1, keeps .idle state (passed-asks .0))
+        passed-asks = (pass-within file g (h .loaded) p l, test-asked)
 
         pub passed-more : passesOf (g .low) (g .high) file test state ≡ true → {after : List ℤ} → after ≡ advanceOf (g .low) (g .high) state
-            → StatesPassed file g (holdsAt number) after (n + 1)
-        passed-more f = pass-more file g (h .loaded) l p (sym (passes-is state) ∙ f)
+            → StatesPassed g (holdsAt number) after (n + 1)
+        passed-more f = pass-more file g (h .loaded) p l (sym (passes-is state) ∙ f)
 
         pub passed-broke : passesOf (g .low) (g .high) file test state ≡ false → Broke file g number state n
         passed-broke f =
-            let fails = pass-here file g (h .loaded) l p (sym (passes-is state) ∙ f) in
+            let fails = pass-here file g (h .loaded) p l (sym (passes-is state) ∙ f) in
             (p .here l, record { state = l; held = p .held; fails = fails })
 
       -- skipping by boxes
       pub skip-asks : TestFits (g .low) (g .high) file test × (Ranges (g .low) (g .high) × (countOf (g .low) (g .high) ≤ 1048576))
-      skip-asks = (test-asked, (keeps .ranges, rw (← (keeps .counted)) states-small))
+      skip-asks = onward-asks file g (h .loaded) test-asked
 
-      pub passed-skip : {state : List ℤ} {n : ℕ} → StatesPassed file g (holdsAt number) state n → (budget : ℕ) {found : Skipped}
-          → found ≡ skipOf file (searchOf g test) (g .states) (skipTo state n) budget
-          → StatesPassed file g (holdsAt number) (found .state) (found .number) × (n ≤ found .number)
-      unfolding stateAt
-      passed-skip {state} {n} p budget {found} e =
-          let long = keeps .long in
-          let from : Passed file (searchOf g test) test-asked long (g .states) (skipTo state n) =
-          record {
-            most = p .passed;
-            here = p .here;
-            held = λ k l. passes-is _ ∙ p .held k l;
-          } in
-          let r = skipped file (searchOf g test) test-asked long (keeps .ranges) (keeps .counted) from budget in
-          rw e (
-            record {
-              passed = r .0 .most;
-              here = r .0 .here;
-              held = λ k l. sym (passes-is _) ∙ r .0 .held k l;
-            },
-            r .1,
-          )
+      pub passed-onward : {state : List ℤ} {n : ℕ} → StatesPassed g (holdsAt number) state n → (spans : List ℕ) (ask : ℕ) {to : Scan}
+          → to ≡ onwardOf file spans (searchOf g test) (g .states) (scanAt state n ask)
+          → StatesPassed g (holdsAt number) (to .state) (to .number) × (n ≤ to .number)
+      passed-onward = pass-onward file g (h .loaded) test-asked passes-is
 
   -- ---- the conditions
   module _ {number : ℕ} (s : Searched file g number) where
-    pub searched-more : number < total → {state : List ℤ} {n : ℕ} → StatesPassed file g (holdsAt number) state n → g .states ≤ n
+    pub searched-more : number < total → {state : List ℤ} {n : ℕ} → StatesPassed g (holdsAt number) state n → g .states ≤ n
         → Searched file g (number + 1)
     searched-more l p z =
         record {

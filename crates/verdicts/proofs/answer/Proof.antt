@@ -16,8 +16,8 @@ enum-known-found c = search needs
 diagram-of-requires : tie.Need-diagram-of-requires
 diagram-of-requires c κs = sym (c .before .before .before .find .ensures) ∙ c .before .found .given .1
 
-tested-requires : tie.Need-tested-requires
-tested-requires c κs = loads (sym (c .before .before .before .before .find .ensures) ∙ c .before .before .found .given .1) (c .diagram-of .ensures)
+try-single-requires : tie.Need-try-single-requires
+try-single-requires c κs = loads (sym (c .before .before .before .before .find .ensures) ∙ c .before .before .found .given .1) (c .diagram-of .ensures)
 
 enum-known-found-2 : tie.Need-enum-known-found-2
 enum-known-found-2 c = search needs
@@ -25,7 +25,7 @@ enum-known-found-2 c = search needs
 returns : tie.Need-returns
 unfolding singleOf
 returns c =
-    c .tested .ensures
+    c .try-single .ensures
     ∙ rw (sym (c .before .before .before .before .before .find .ensures) ∙ c .before .before .before .found .given .1, c .before .diagram-of .ensures)
 
 returns-2 : tie.Need-returns-2
@@ -39,7 +39,7 @@ answer-spec =
     find-requires
     enum-known-found
     diagram-of-requires
-    tested-requires
+    try-single-requires
     enum-known-found-2
     returns
     returns-2)

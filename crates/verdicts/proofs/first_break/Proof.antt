@@ -15,14 +15,15 @@ use Rattle.testing.specs.Holding.{conditionHolds}
 use Rattle.testing.specs.Testing.{passesOf}
 use Rattle.testing.proofs.Laws.Testing.{passes-vacuous, passes-concluded}
 use Rattle.verdicts.proofs.Steps.Verdict.{Ready, Searched, states-small, total-small, tests-small, test-asks, named-asks}
-use Rattle.verdicts.proofs.Steps.Verdict.{StatesPassed, passed-begin, passed-asks, advance-asks, passed-more, passed-broke, test-asked}
-use Rattle.verdicts.proofs.Steps.Verdict.{skip-asks, passed-skip, Broke, broke-small, searched-more, searched-broke, searched-end}
+use Rattle.searching.proofs.Laws.Scan.{StatesPassed, pass-idle}
+use Rattle.verdicts.proofs.Steps.Verdict.{passed-begin, passed-asks, passed-more, passed-broke, skip-asks, passed-onward}
+use Rattle.verdicts.proofs.Steps.Verdict.{Broke, broke-small, searched-more, searched-broke, searched-end}
 use Rattle.verdicts.proofs.first_break.Statement.{statement}
 use Rattle.verdicts.proofs.first_break.Tie as tie
 
 abbrev Inv-states : tie.InvT-states
 Inv-states file diagram spans by-boxes low high states total ranges number state₀ n₀ test premise search ask₀ state n ask =
-    StatesPassed file diagram (conditionHolds file diagram (conditionAt file diagram number)) state n
+    StatesPassed diagram (conditionHolds file diagram (conditionAt file diagram number)) state n
 
 abbrev μ-states : tie.MeasureT-states
 μ-states file diagram spans by-boxes low high states total ranges number state₀ n₀ test premise search ask₀ state n ask = states - n
@@ -51,7 +52,7 @@ looked-up d = d .before .before .before .before
 abbrev passedIn : Opened → List ℤ → ℕ → Type 0
 passedIn d state n =
     let a = start (looked-up d) .args in
-    StatesPassed (a .file .now) (a .diagram)
+    StatesPassed (a .diagram)
     (conditionHolds (a .file .now) (a .diagram) (conditionAt (a .file .now) (a .diagram) (d .before .before .before .conditions .number))) state n
 
 -- where the loops were left before the last condition, they were left at a break
@@ -91,38 +92,36 @@ condition-at-requires c κs =
 test-of-requires : tie.Need-test-of-requires Inv-states μ-states Inv-conditions μ-conditions
 test-of-requires c κs = test-asks (ready (c .before .before .before)) (c .before .conditions-test .taken) (c .condition-at .ensures)
 
-add-ask : tie.Need-add-ask Inv-states μ-states Inv-conditions μ-conditions
-add-ask c = omega (arith, states-small (ready (looked-up (c .before))))
+first-ask-requires : tie.Need-first-ask-requires Inv-states μ-states Inv-conditions μ-conditions
+first-ask-requires c κs = search needs
 
 states-holds : tie.Need-states-holds Inv-states μ-states Inv-conditions μ-conditions
-states-holds c = passed-begin (ready (looked-up (c .before))) _
+states-holds c = passed-begin (ready (looked-up ((c .before)))) _
 
 advance-requires : tie.Need-advance-requires Inv-states μ-states Inv-conditions μ-conditions
 advance-requires c κs =
-    let d = c .before .before .before in
-    advance-asks (ready (looked-up d)) (d .before .before .conditions-test .taken) (d .before .condition-at .ensures) (d .test-of .ensures)
-    (c .before .states .inv) (c .states-test .taken)
+    let h = ready (looked-up ((c .before .before .before))) in pass-idle _ _ (h .loaded) (c .before .states .inv) (c .states-test .taken)
 
 holds-requires : tie.Need-holds-requires Inv-states μ-states Inv-conditions μ-conditions
 holds-requires c κs =
-    let d = c .before .before .before .before in
+    let d = (c .before .before .before .before) in
     let asks = passed-asks (ready (looked-up d)) (d .before .before .conditions-test .taken) (d .before .condition-at .ensures) (d .test-of .ensures)
     (c .before .before .states .inv) (c .before .states-test .taken) in
     (asks .1 .premise _ (asks .0), start (looked-up d) .pre .1)
 
 concludes-requires : tie.Need-concludes-requires Inv-states μ-states Inv-conditions μ-conditions
 concludes-requires c κs =
-    let d = c .before .before .before .before .before .before in (
+    let d = (c .before .before .before .before .before .before) in (
       start (looked-up d) .pre .1,
       passed-asks (ready (looked-up d)) (d .before .before .conditions-test .taken) (d .before .condition-at .ensures) (d .test-of .ensures)
           (c .before .before .before .before .states .inv) (c .before .before .before .states-test .taken),
     )
 
 add-n : tie.Need-add-n Inv-states μ-states Inv-conditions μ-conditions
-add-n c = omega (arith, c .before .before .before .states-test .taken, states-small (ready (looked-up (c .before .before .before .before .before .before))))
+add-n c = omega (arith, c .before .before .before .states-test .taken, states-small (ready (looked-up ((c .before .before .before .before .before .before)))))
 
 -- one state more is passed
-moved : (c : tie.Joined2 Inv-states μ-states Inv-conditions μ-conditions)
+moved : (c : tie.Joined1 Inv-states μ-states Inv-conditions μ-conditions)
     → passedIn (c .before .before .before .before .before .before) (c .before .before .advance .result) (c .before .before .before .before .states .n + 1)
 moved c =
     let d = c .before .before .before .before .before .before in
@@ -131,53 +130,40 @@ moved c =
     (c .before .before .before .before .states .inv) (c .before .before .before .states-test .taken)
     (⊎-elim {C = passesOf _ _ _ _ _ ≡ true} (λ w. passes-concluded _ _ _ _ _ premise (w .0 .taken) (w .1 .ensures) ∙ not-false _ (w .2 .left))
     (λ w. passes-vacuous _ _ _ _ _ premise (w .left))
-    (c .if2 .came))
+    (c .if1 .came))
     (c .before .before .advance .ensures)
 
-mul-ask : tie.Need-mul-ask Inv-states μ-states Inv-conditions μ-conditions
-mul-ask c =
-    let d = c .before .before .before .before .before .before .before .before in
-    omega (arith, c .before .if4 .taken, c .before .before .before .before .before .states-test .taken, states-small (ready (looked-up d)))
-
-budget-requires : tie.Need-budget-requires Inv-states μ-states Inv-conditions μ-conditions
-budget-requires c κs =
-    let d = c .before .before .before .before .before .before .before .before in
-    test-asked (ready (looked-up d)) (d .before .before .conditions-test .taken) (d .before .condition-at .ensures) (d .test-of .ensures) .few
-
-add-ask-2 : tie.Need-add-ask-2 Inv-states μ-states Inv-conditions μ-conditions
-add-ask-2 c = omega (arith, states-small (ready (looked-up (c .before .before .before .before .before .before .before .before .before .before))))
-
-skip-requires : tie.Need-skip-requires Inv-states μ-states Inv-conditions μ-conditions
-skip-requires c κs =
-    let d = c .before .before .before .before .before .before .before .before .before .before in (
-      start (looked-up d) .pre .1,
-      skip-asks (ready (looked-up d)) (d .before .before .conditions-test .taken) (d .before .condition-at .ensures) (d .test-of .ensures),
-    )
+onward-requires : tie.Need-onward-requires Inv-states μ-states Inv-conditions μ-conditions
+onward-requires c κs =
+    let d = (c .before .before .before .before .before .before .before) in
+    let h = ready (looked-up d) in
+    let asks = skip-asks h (d .before .before .conditions-test .taken) (d .before .condition-at .ensures) (d .test-of .ensures) in
+    (start (looked-up d) .pre .1, (asks .0, (asks .1 .0, (asks .1 .1, omega (arith, c .if3 .taken, c .before .before .before .before .states-test .taken, states-small h)))))
 
 -- or more, by boxes
-further : (c : tie.After-skip Inv-states μ-states Inv-conditions μ-conditions)
-    → passedIn (c .before .before .before .before .before .before .before .before .before .before .before) (c .skip .result .state) (c .skip .result .number)
-    × (c .before .before .before .before .before .before .before .before .before .states .n + 1 ≤ c .skip .result .number)
+further : (c : tie.After-onward Inv-states μ-states Inv-conditions μ-conditions)
+    → passedIn (c .before .before .before .before .before .before .before .before) (c .onward .result .state) (c .onward .result .number)
+    × (c .before .before .before .before .before .before .states .n + 1 ≤ c .onward .result .number)
 further c =
-    let d = c .before .before .before .before .before .before .before .before .before .before .before in
-    passed-skip (ready (looked-up d)) (d .before .before .conditions-test .taken) (d .before .condition-at .ensures) (d .test-of .ensures)
-    (moved (c .before .before .before .before .before)) _ (c .skip .ensures)
+    let d = c .before .before .before .before .before .before .before .before in
+    passed-onward (ready (looked-up d)) (d .before .before .conditions-test .taken) (d .before .condition-at .ensures) (d .test-of .ensures)
+    (moved (c .before .before)) _ _ (c .onward .ensures)
 
 states-less : tie.Need-states-less Inv-states μ-states Inv-conditions μ-conditions
-states-less c = omega (arith, further (c .before) .1, c .before .before .before .before .before .before .before .before .before .states-test .taken)
+states-less c = omega (arith, further ((c .before)) .1, c .before .before .before .before .before .before .states-test .taken)
 
 states-again : tie.Need-states-again Inv-states μ-states Inv-conditions μ-conditions
-states-again c = further (c .before) .0
+states-again c = further ((c .before)) .0
 
 states-less-2 : tie.Need-states-less-2 Inv-states μ-states Inv-conditions μ-conditions
 states-less-2 c = omega (arith, c .before .before .before .before .states-test .taken)
 
 states-again-2 : tie.Need-states-again-2 Inv-states μ-states Inv-conditions μ-conditions
-states-again-2 c = moved (c .before)
+states-again-2 c = moved ((c .before))
 
 add-number : tie.Need-add-number Inv-states μ-states Inv-conditions μ-conditions
 add-number c =
-    let d = c .before .before .before .before in
+    let d = (c .before .before .before .before) in
     omega (arith, d .before .before .conditions-test .taken, total-small (ready (looked-up d)))
 
 conditions-less : tie.Need-conditions-less Inv-states μ-states Inv-conditions μ-conditions
@@ -187,28 +173,28 @@ conditions-again : tie.Need-conditions-again Inv-states μ-states Inv-conditions
 conditions-again c =
     searched-more (ready (c .before .before .before .before .before .before .before .before))
     (c .before .before .before .before .before .before .before .conditions .inv)
-    (c .before .before .before .before .before .before .conditions-test .taken) (c .before .before .states .inv) (c .if6 .left)
+    (c .before .before .before .before .before .before .conditions-test .taken) (c .before .before .states .inv) (c .if4 .left)
 
 condition-at-requires-2 : tie.Need-condition-at-requires-2 Inv-states μ-states Inv-conditions μ-conditions
 condition-at-requires-2 c κs =
     let s = c .before .before .before in
-    (start s .pre .0, omega (arith, s .total .ensures, c .if7 .taken))
+    (start s .pre .0, omega (arith, s .total .ensures, c .if5 .taken))
 
 cast-named : tie.Need-cast-named Inv-states μ-states Inv-conditions μ-conditions
 cast-named c = record { fits = omega (arith, total-small (ready (c .before .before .before .before))) }
 
 mul-named : tie.Need-mul-named Inv-states μ-states Inv-conditions μ-conditions
-mul-named c = omega (arith, tests-fit (c .before .before) (c .before .if7 .taken))
+mul-named c = omega (arith, tests-fit (c .before .before) (c .before .if5 .taken))
 
 add-named : tie.Need-add-named Inv-states μ-states Inv-conditions μ-conditions
-add-named c = omega (arith, tests-fit (c .before .before .before) (c .before .before .if7 .taken))
+add-named c = omega (arith, tests-fit (c .before .before .before) (c .before .before .if5 .taken))
 
 add-named-2 : tie.Need-add-named-2 Inv-states μ-states Inv-conditions μ-conditions
-add-named-2 c = omega (arith, tests-fit (c .before .before .before) (c .before .before .if7 .taken))
+add-named-2 c = omega (arith, tests-fit (c .before .before .before) (c .before .before .if5 .taken))
 
 named-requires : tie.Need-named-requires Inv-states μ-states Inv-conditions μ-conditions
 named-requires c κs =
-    named-asks (ready (c .before .before .before .before .before)) (c .before .before .if7 .taken)
+    named-asks (ready (c .before .before .before .before .before)) (c .before .before .if5 .taken)
     (c .before .condition-at2 .ensures)
 
 returns : tie.Need-returns Inv-states μ-states Inv-conditions μ-conditions
@@ -216,8 +202,8 @@ returns c =
     c .named .ensures
     ∙ searched-broke (ready (c .before .before .before .before .before .before))
     (c .before .before .before .before .before .conditions .inv)
-    (c .before .before .before .if7 .taken) (c .before .before .condition-at2 .ensures)
-    (broke (c .before .before .before .before) (c .before .before .before .if7 .taken)) (omega arith)
+    (c .before .before .before .if5 .taken) (c .before .before .condition-at2 .ensures)
+    (broke (c .before .before .before .before) (c .before .before .before .if5 .taken)) (omega arith)
 
 cast-unnamed : tie.Need-cast-unnamed Inv-states μ-states Inv-conditions μ-conditions
 cast-unnamed c = record { fits = omega (arith, total-small (ready (c .before .before .before))) }
@@ -232,7 +218,7 @@ returns-2 : tie.Need-returns-2 Inv-states μ-states Inv-conditions μ-conditions
 returns-2 c =
     c .unnamed .ensures ∙ searched-end (ready (c .before .before .before .before))
     (c .before .before .before .conditions .inv)
-    (c .before .if7 .left) (omega arith)
+    (c .before .if5 .left) (omega arith)
 
 pub first-break-spec : {M : Type 1} → statement M
 first-break-spec =
@@ -246,16 +232,13 @@ first-break-spec =
     conditions-holds
     condition-at-requires
     test-of-requires
-    add-ask
+    first-ask-requires
     states-holds
     advance-requires
     holds-requires
     concludes-requires
     add-n
-    mul-ask
-    budget-requires
-    add-ask-2
-    skip-requires
+    onward-requires
     states-less
     states-again
     states-less-2

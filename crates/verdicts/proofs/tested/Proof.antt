@@ -5,25 +5,24 @@ use mathlib.Core.Bool.{cond}
 use native.Mathlib.Omega.{arith}
 use Rattle.verdicts.specs.Verdict.{singleJudged}
 use Rattle.verdicts.specs.declared.Single.{Single}
-use Rattle.verdicts.proofs.Steps.Verdict.{small, spans-serve, Ready, test-asks, state-asks, single-asks, single-answers, tested-eleven, tested-twelve}
+use Rattle.verdicts.proofs.Steps.Verdict.{Ready, test-asks, state-asks, single-asks, single-answers, tested-eleven, tested-twelve}
 use borrow.Author.Needs.{needs}
 use Rattle.verdicts.proofs.tested.Statement.{statement}
 use Rattle.verdicts.proofs.tested.Tie as tie
 
 ready : (c : tie.After-total) → Ready (c .before .before .args .file .now) (c .before .before .args .diagram) (c .total .result)
-ready c = record { loaded = c .before .before .pre; total-is = c .total .ensures }
+ready c = record { loaded = c .before .before .pre .0; total-is = c .total .ensures }
 
 abbrev looked-up : tie.After-condition-at → tie.After-total
 looked-up c = c .before .before .before .before .before .before
 
 answers : (c : tie.After-passes)
-    → let s = looked-up (c .before .before .before .before .before) .before .before in
+    → let s = looked-up (c .before .before .before) .before .before in
     singleJudged (s .args .file .now) (s .args .diagram) (s .args .condition) (s .args .state) ≡ cond (c .passes .result) Single.Holds Single.Fails
 answers c =
-    let s = c .before .before .before in
-    let d = s .before .before in
-    single-answers (ready (looked-up d)) (d .before .before .before .before .before .if1 .left) (d .condition-at .ensures) (s .before .test-of .ensures)
-    (d .before .before .before .if2 .left) (s .state-of .ensures) (c .passes .ensures)
+    let d = c .before .before .before in
+    single-answers (ready (looked-up d)) (d .before .before .before .before .before .if1 .left) (d .condition-at .ensures)
+    (c .before .before .test-of .ensures) (d .before .before .before .if2 .left) (c .before .state-of .ensures) (c .passes .ensures)
 
 total-requires : tie.Need-total-requires
 total-requires c κs = search needs
@@ -39,33 +38,24 @@ returns-2 c =
 
 condition-at-requires : tie.Need-condition-at-requires
 condition-at-requires c κs =
-    let d = c .before .before .before .before .before in
-    (d .before .before .pre, omega (arith, d .total .ensures, c .before .before .before .before .if1 .left))
+    (c .before .before .before .before .before .before .before .pre .0, omega (arith, c .before .before .before .before .before .total .ensures, c .before .before .before .before .if1 .left))
 
 test-of-requires : tie.Need-test-of-requires
 test-of-requires c κs =
-    test-asks (ready (looked-up c)) (c .before .before .before .before .before .if1 .left) (c .condition-at .ensures)
+    test-asks (ready ((c .before .before .before .before .before .before))) (c .before .before .before .before .before .if1 .left) (c .condition-at .ensures)
 
 state-of-requires : tie.Need-state-of-requires
-state-of-requires c κs = state-asks (ready (c .before .before .before .before .before .before .before)) (c .before .before .before .before .if2 .left)
-
-spans-of-requires : tie.Need-spans-of-requires
-spans-of-requires c κs = small _ _ (c .before .before .before .before .before .before .before .before .before .before .pre)
+state-of-requires c κs = state-asks (ready ((c .before .before .before .before .before .before .before))) (c .before .before .before .before .if2 .left)
 
 passes-requires : tie.Need-passes-requires
 passes-requires c κs =
-    let d = c .before .before .before .before in
-    let e = looked-up d in (
-      spans-serve _ _ (e .before .before .pre) (c .before .spans-of .ensures),
-      single-asks (ready e) (d .before .before .before .before .before .if1 .left) (d .condition-at .ensures) (c .before .before .before .test-of .ensures)
-          (d .before .before .before .if2 .left) (c .before .before .state-of .ensures),
-    )
+    (c .before .before .before .before .before .before .before .before .before .before .pre .1, single-asks (ready ((c .before .before .before .before .before .before .before .before))) (c .before .before .before .before .before .before .before .if1 .left) (c .before .before .condition-at .ensures) (c .before .test-of .ensures) (c .before .before .before .before .before .if2 .left) (c .state-of .ensures))
 
 returns-3 : tie.Need-returns-3
-returns-3 c = sym (rw (c .if3 .taken) at (answers (c .before)))
+returns-3 c = sym (rw (c .if3 .taken) at (answers ((c .before))))
 
 returns-4 : tie.Need-returns-4
-returns-4 c = sym (rw (c .if3 .left) at (answers (c .before)))
+returns-4 c = sym (rw (c .if3 .left) at (answers ((c .before))))
 
 pub tested-spec : {M : Type 1} → statement M
 tested-spec =
@@ -77,7 +67,6 @@ tested-spec =
     condition-at-requires
     test-of-requires
     state-of-requires
-    spans-of-requires
     passes-requires
     returns-3
     returns-4)

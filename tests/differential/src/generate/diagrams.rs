@@ -58,11 +58,11 @@ struct Builder<'a> {
 
 // ------------------------------------------------------------------------------ expressions
 
-fn variable(number: u8) -> Code {
+pub fn variable(number: u8) -> Code {
     vec![record(0x11, number, 0, 0, 0)]
 }
 
-fn less(left: &Code, right: &Code) -> Code {
+pub fn less(left: &Code, right: &Code) -> Code {
     join(0x28, &[left, right])
 }
 
@@ -78,12 +78,12 @@ fn quotient(left: &Code, divisor: i64) -> Code {
     join(0x18, &[left, &value(divisor)])
 }
 
-fn remainder(left: &Code, divisor: i64) -> Code {
+pub fn remainder(left: &Code, divisor: i64) -> Code {
     join(0x19, &[left, &value(divisor)])
 }
 
 /// All of them, with few levels.
-fn all(truths: &[Code]) -> Code {
+pub fn all(truths: &[Code]) -> Code {
     match truths {
         [] => vec![plain(0x20)],
         [one] => one.clone(),
@@ -160,8 +160,12 @@ impl<'a> Builder<'a> {
             _ => vec![self.entry(&nodes), self.weaker(&nodes[0])],
         };
         let start = match self.property {
-            INVARIANCE => self.entry(&nodes),
-            _ => self.grower.truth(3, false),
+            INVARIANCE => match self.grower.random.below(12) {
+                0 => self.grower.nowhere(),
+                1 => self.grower.one_state(),
+                _ => self.entry(&nodes),
+            },
+            _ => self.grower.start(3),
         };
         Draft {
             start,

@@ -117,6 +117,7 @@ fn examples() {
         ("0..1023 and 0..1024", "07ffff0001000000", 0),
         ("1000 × 1000", "00ffff0002000000", 2),
         ("1000 × 1001", "08ffff0003000000", 0),
+        ("B, start false", "14ffff0000000000", 0),
     ] {
         let file = example(name);
         let expected = format!("{:0<64}", first_bytes.replace(' ', ""));
@@ -162,6 +163,7 @@ fn buffers() {
         ("B", acceptance(4, 12)),
         ("F", refusal(9, 30)),
         ("7 bytes", refusal(2, 0)),
+        ("B, start false", refusal(20, 0)),
     ] {
         let file = example(name);
         for (checker, check, _) in CHECKERS {
@@ -221,6 +223,7 @@ fn single_tests() {
         ("I", 9, 40),
         ("no bytes", 3, 0),
         ("7 bytes", 2, 0),
+        ("B, start false", 20, 0),
     ] {
         let file = example(name);
         single_refused(&file, 0, 0, number, place);
@@ -289,6 +292,66 @@ fn start_entry_cover() {
     broken(&chain(equal(1), equal(0), equal(1)), 15, 0, 255, 1, 1, 4);
     // Node 1, v = 1, doesn't imply q; the step keeps v = 1, which node 0 has.
     accepted(&chain(equal(1), always(), equal(1)), 5, 10);
+}
+
+/// C10.20, C11.1, C12.7, C13.2: of each property, before each kind of condition and before the
+/// numbers of a single test.
+#[test]
+fn no_start() {
+    // v of -1..2 becomes v + 1, without a guard or where it is less than 1.
+    let up = [step(1, &always(), 1)];
+    let below_1 = [step(1, &compare(0x28, 1), 1)];
+    let nodes = [equal(2), equal(1)];
+    let double = [(0, 1, 0, 1)];
+    let truths = |list: &[i16]| -> Vec<Records> { list.iter().map(|&v| equal(v)).collect() };
+    type Case<'a> = (
+        u8,
+        &'a [Records],
+        (u8, i16, Vec<Records>),
+        &'a [Records],
+        &'a [(u8, i16, i16, u8)],
+    );
+    // What each is answered with where the start is v = 2.
+    let cases: [Case; 11] = [
+        (0, &[], (1, 0, truths(&[2])), &nodes[..1], &[]),
+        (13, &[], (1, 0, truths(&[1])), &nodes[1..], &[]),
+        (15, &[], (1, 0, truths(&[1])), &nodes[..1], &[]),
+        (16, &up, (1, 0, truths(&[2])), &nodes[..1], &[]),
+        (0, &up, (2, 2, truths(&[2, 2, 1])), &nodes, &[(0, 1, 0, 0)]),
+        (14, &up, (2, 2, truths(&[0, 2, 1])), &nodes, &[]),
+        (17, &up, (2, 2, truths(&[1, 2, 1])), &nodes, &[]),
+        (0, &up, (3, 0, truths(&[1, 2])), &nodes, &double),
+        (14, &up, (3, 0, truths(&[0, 2])), &nodes, &double),
+        (15, &up, (3, 0, truths(&[1, 1])), &nodes, &double),
+        (18, &below_1, (3, 0, truths(&[1, 2])), &nodes, &double),
+    ];
+    let [below, above] = [
+        compare(0x28, 0),
+        [vec![r(0x22, 0)], compare(0x29, 0)].concat(),
+    ];
+    for (number, transitions, (a, b, truths), nodes, edges) in cases {
+        let with = |start| file((-1, 2), start, transitions, (a, b, &truths), nodes, edges);
+        for (name, check, _) in CHECKERS {
+            let found = check(&with(equal(2)), &mut [0; 32]).number;
+            assert_eq!(found, number, "{name}");
+        }
+        for start in [
+            vec![r(0x21, 0)],
+            equal(3),
+            equal(-2),
+            [vec![r(0x23, 0)], below.clone(), above.clone()].concat(),
+            // v leaves 2 by 2.
+            vec![r(0x27, 0), r(0x19, 0), r(0x11, 0), constant(2), constant(2)],
+        ] {
+            let file = with(start);
+            answers(&file, refusal(20, 0));
+            for condition in [0, 1, 100, usize::MAX] {
+                for state in [0, 3, 4, usize::MAX] {
+                    single_refused(&file, condition, state, 20, 0);
+                }
+            }
+        }
+    }
 }
 
 /// C8.4, C8.5, C8.10, C8.11, C10.16, C10.17.

@@ -22,18 +22,19 @@ fn file(ranges: &[(i16, i16)], start: Expression) -> Vec<u8> {
     records.concat()
 }
 
-/// C4.3, C10.12: both count so many states; C6.3, C8.7: and so many starting states.
+/// C4.3, C10.12: both count so many states; C6.3, C8.7: and so many starting states. C10.20: where
+/// there are none, every single test is refused.
 #[track_caller]
 fn counts(file: &[u8], states: usize, starting: usize) {
     for (name, _, single) in CHECKERS {
         let fails = |state: &usize| single(file, 0, *state) == Tested::Fails;
         assert_eq!((0..states).filter(fails).count(), starting, "{name}");
-        let refused = Tested::Refused {
-            number: 12,
-            place: 0,
-        };
-        assert_eq!(single(file, 0, states), refused, "{name}");
-        assert_ne!(single(file, 0, states - 1), refused, "{name}");
+        let refused = |number| Tested::Refused { number, place: 0 };
+        let beyond = if starting == 0 { 20 } else { 12 };
+        assert_eq!(single(file, 0, states), refused(beyond), "{name}");
+        let last = single(file, 0, states - 1);
+        assert_ne!(last, refused(12), "{name}");
+        assert_eq!(last == refused(20), starting == 0, "{name}");
     }
 }
 

@@ -22,6 +22,7 @@ pub fn example(name: &str) -> Vec<u8> {
         "0..1023 and 0..1024" => with_ranges(&[1023, 1024]),
         "1000 × 1000" => with_product(1000),
         "1000 × 1001" => with_product(1001),
+        "B, start false" => no_start(),
         _ => panic!("no example {name}"),
     }
     .concat()
@@ -39,6 +40,13 @@ fn compare(kind: u8, value: i16) -> Records {
 
 fn equal(value: i16) -> Records {
     compare(0x27, value)
+}
+
+/// B, its start false.
+fn no_start() -> Records {
+    let mut records = b();
+    records.splice(2..5, [r(0x21, 0)]);
+    records
 }
 
 /// C1.2, C1.3: the bytes of A.
@@ -139,17 +147,11 @@ fn with_ranges(highs: &[i16]) -> Records {
     records
 }
 
-/// A start that compares 1000 times this value with 0, record 3 being the product.
+/// A start that compares 1000 times this value with itself, record 3 being the product.
 fn with_product(value: i16) -> Records {
     let mut records = with_ranges(&[0]);
     let constant = |value| record(0x10, 0, value, 0, 0);
-    let start = [
-        r(0x27, 0),
-        r(0x14, 0),
-        constant(1000),
-        constant(value),
-        constant(0),
-    ];
-    records.splice(2..3, start);
+    let product = [r(0x14, 0), constant(1000), constant(value)];
+    records.splice(2..3, [&[r(0x27, 0)], &product[..], &product].concat());
     records
 }

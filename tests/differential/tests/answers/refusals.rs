@@ -236,7 +236,7 @@ fn levels() {
         with(chain(), 2..3, &start)
     };
     // 16 levels.
-    readable(&nots(15, &[r(0x20)]));
+    readable(&nots(15, &[r(0x21)]));
     // 17 levels.
     refused(5, 18, &nots(16, &[r(0x20)]));
     // Sorts and fields before levels.
@@ -299,9 +299,9 @@ fn intervals() {
     refused(7, 1, &ranges(&[(0, 16), (-30_000, 31_680), (0, 0)]));
     refused(7, 3, &ranges(&[(0, 1), widest, (0, 7), (0, 1)]));
 
-    // The start compares this with 0, so that the number's first record is record 3.
+    // The start compares this with itself, so that the number's first record is record 3.
     let start = |number: &[[u8; 8]]| {
-        let start = [&[r(0x27)], number, &[constant(0)]].concat();
+        let start = [&[r(0x27)], number, number].concat();
         with(chain(), 2..3, &start)
     };
     let million = [r(0x14), constant(-1000), constant(1000)];
@@ -373,7 +373,9 @@ fn divisors() {
         refused(19, 5, &one);
         // The left operand may be all of these.
         let left = |left: &[[u8; 8]]| {
-            let start = [&[r(0x27), r(kind)], left, &[constant(1), constant(0)]].concat();
+            // Compared with the greatest constant: at most that.
+            let right = [constant(1), constant(32_767)];
+            let start = [&[r(0x29), r(kind)], left, &right].concat();
             with(chain(), 2..3, &start)
         };
         readable(&left(&[constant(0)]));
@@ -455,9 +457,9 @@ fn divisors_and_others() {
             with(divided(kind, &[constant(value)]), 2..2, &nots)
         };
         // Both operands at level 16, at level 17.
-        readable(&deep(13, 1));
+        readable(&deep(13, 2));
         refused(19, 18, &deep(13, 0));
-        refused(5, 18, &deep(14, 1));
+        refused(5, 18, &deep(14, 2));
         refused(5, 18, &deep(14, 0));
         // Level 17 at a later record: the first node's, which is record 17, its truth 18.
         let bad = divided(kind, &[constant(0)]);
@@ -501,7 +503,7 @@ fn divisors_and_others() {
 #[test]
 fn intervals_of_quotients_and_remainders() {
     let start = |range: (i16, i16), number: &[[u8; 8]]| {
-        let start = [&[r(0x27)], number, &[constant(0)]].concat();
+        let start = [&[r(0x27)], number, number].concat();
         let records = with(chain(), 2..3, &start);
         with(records, 0..1, &[record(0x01, 0, range.0, range.1, 0)])
     };
@@ -641,6 +643,90 @@ fn order() {
     records.push(edge(0, 2, 2, 0));
     // 6 before 7.
     refused(6, 24, &records);
+}
+
+/// C10.20: starts over two variables, in 0..3 and -2..2; one state is enough.
+#[test]
+fn starts() {
+    let (v, w) = (r(0x11), record(0x11, 1, 0, 0, 0));
+    let with_start = |start: &[[u8; 8]]| {
+        let ranges = [record(0x01, 0, 0, 3, 0), record(0x01, 0, -2, 2, 0)];
+        with(with(chain(), 2..3, start), 0..1, &ranges)
+    };
+    let here = |v_is, w_is| {
+        let parts = [r(0x23), r(0x27), v, constant(v_is), r(0x27), w];
+        with_start(&[&parts[..], &[constant(w_is)]].concat())
+    };
+    for v_is in -1..=4 {
+        for w_is in -3..=3 {
+            match ((0..=3).contains(&v_is), (-2..=2).contains(&w_is)) {
+                (true, true) => readable(&here(v_is, w_is)),
+                _ => refused(20, 0, &here(v_is, w_is)),
+            }
+        }
+    }
+    for literal in [0x20, 0x21] {
+        let negated = with_start(&[r(0x22), r(literal)]);
+        match literal {
+            0x21 => readable(&negated),
+            _ => refused(20, 0, &negated),
+        }
+    }
+    // v less than w: true somewhere; and w less than v besides: nowhere.
+    let (less, greater) = ([r(0x28), v, w], [r(0x28), w, v]);
+    readable(&with_start(&less));
+    readable(&with_start(&greater));
+    let either = |kind| [&[r(kind)], &less[..], &greater].concat();
+    readable(&with_start(&either(0x24)));
+    refused(20, 0, &with_start(&either(0x23)));
+    // 2 × v equal to 2 × w plus 2, and plus 1, which is odd.
+    let twice = |number| [r(0x14), constant(2), number];
+    let sum = |more| {
+        let sum = [&[r(0x12)], &twice(w)[..], &[constant(more)]].concat();
+        with_start(&[&[r(0x27)], &twice(v)[..], &sum].concat())
+    };
+    readable(&sum(2));
+    refused(20, 0, &sum(1));
+    // w by 2 leaves 0 and 1; it is -1, 0 and 1.
+    let by_2 = |kind, value| with_start(&[r(0x27), r(kind), w, constant(2), constant(value)]);
+    for (kind, values) in [(0x19, 0..=1), (0x18, -1..=1)] {
+        for value in -2..=2 {
+            match values.contains(&value) {
+                true => readable(&by_2(kind, value)),
+                false => refused(20, 0, &by_2(kind, value)),
+            }
+        }
+    }
+}
+
+/// C11.1: 20 with 2 to 10 and 19.
+#[test]
+fn starts_and_others() {
+    let bad = with(chain(), 2..3, &[r(0x21)]);
+    refused(20, 0, &bad);
+    // An unfit record at the end, a field, level 17, an edge again, a divisor.
+    refused(3, 20, &with(bad.clone(), 20..20, &[r(0x06)]));
+    refused(4, 19, &with(bad.clone(), 19..20, &[edge(0, 2, 0, 2)]));
+    let deep = [vec![r(0x22); 16], vec![r(0x20)]].concat();
+    refused(5, 33, &with(bad.clone(), 17..18, &deep));
+    refused(6, 20, &with(bad.clone(), 20..20, &[edge(0, 2, 0, 1)]));
+    let by_0 = [r(0x28), r(0x18), r(0x11), constant(0), constant(1)];
+    refused(19, 20, &with(bad.clone(), 17..18, &by_0));
+    // Too many states; an interval, in a node; an edge from the goal; no double edge.
+    let states = [record(0x01, 0, 0, 2000, 0); 2];
+    refused(7, 1, &with(bad.clone(), 0..1, &states));
+    let out = [r(0x28), r(0x14), constant(1001), constant(1000), r(0x11)];
+    refused(8, 18, &with(bad.clone(), 17..18, &out));
+    refused(9, 20, &with(bad.clone(), 20..20, &[edge(1, 0, 0, 0)]));
+    refused(10, 2, &with(bad.clone(), 19..20, &[]));
+    // One byte more.
+    let file = [bad.concat(), vec![0]].concat();
+    answers(&file, refusal(2, 0));
+    // A wait-for, an invariance.
+    refused(20, 0, &with(wait_for(), 2..3, &[r(0x21)]));
+    let invariance = with(wait_for(), 3..7, &[record(0x05, 1, 0, 0, 0), r(0x20)]);
+    readable(&invariance);
+    refused(20, 0, &with(invariance, 2..3, &[r(0x21)]));
 }
 
 /// C10.2.

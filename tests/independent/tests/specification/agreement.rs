@@ -102,7 +102,7 @@ fn values(file: &independent::File, mut number: usize) -> [i16; 12] {
 #[test]
 fn the_check_agrees_with_the_single_tests() {
     let mut random = Random(1);
-    let (files, mut seen) = (examples(), [0; 20]);
+    let (files, mut seen) = (examples(), [0; 21]);
     for round in 0..20_000 {
         let file = changed(files[round % files.len()].clone(), &mut random);
         if read(&file).map_or(false, |file| file.states() > 500) {
@@ -112,7 +112,7 @@ fn the_check_agrees_with_the_single_tests() {
         assert_eq!(verdict, by_single_tests(&file));
         seen[usize::from(verdict.number)] += 1;
     }
-    for number in [0, 3, 4, 6, 9, 10, 13, 14, 15, 16, 17, 18, 19] {
+    for number in [0, 3, 4, 6, 9, 10, 13, 14, 15, 16, 17, 18, 19, 20] {
         assert!(seen[number] > 0, "{number} not seen: {seen:?}");
     }
 }

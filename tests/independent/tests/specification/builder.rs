@@ -94,6 +94,11 @@ pub fn at_most(left: Bytes, right: Bytes) -> Bytes {
     with(0x29, &[left, right])
 }
 
+/// A number compared with itself: true in every state.
+pub fn itself(number: Bytes) -> Bytes {
+    equal(number.clone(), number)
+}
+
 /// v = value, of variable 0.
 pub fn is(number: i16) -> Bytes {
     equal(value(0), constant(number))

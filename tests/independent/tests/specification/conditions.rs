@@ -227,11 +227,11 @@ fn a_value_beyond_sixteen_bits_is_out_of_range() {
 /// C5.3: w is assigned, v is not.
 #[test]
 fn a_variable_that_is_not_assigned_keeps_its_value() {
-    let file = |assertion| {
+    let file = |assertion: Bytes| {
         join(&[
             variable(0, 1),
             variable(0, 1),
-            start(no()),
+            start(assertion.clone()),
             transition(0, yes(), &[assign(1, constant(0))]),
             invariance(yes()),
             node(assertion),

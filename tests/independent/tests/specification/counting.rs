@@ -24,7 +24,7 @@ fn the_small_files() {
     assert_eq!(tests(&examples::j()), 4 * 4);
 }
 
-/// A file of each of the refusals 2 to 10 and 19.
+/// A file of each of the refusals 2 to 10, 19 and 20.
 fn refused() -> Vec<(u8, Bytes)> {
     let readable = |range, truth| join(&[range, start(truth), invariance(yes()), node(yes())]);
     let million_and_more = less(product(constant(1000), constant(1001)), constant(0));
@@ -45,10 +45,11 @@ fn refused() -> Vec<(u8, Bytes)> {
                 less(quotient(value(0), constant(0)), constant(1)),
             ),
         ),
+        (20, readable(variable(0, 1), no())),
     ]
 }
 
-/// C12.7: none of the refusals 2 to 10 and 19 takes a test.
+/// C12.7: none of the refusals 2 to 10, 19 and 20 takes a test.
 #[test]
 fn refusals_without_a_condition_take_no_tests() {
     for (number, file) in refused() {
@@ -61,7 +62,14 @@ fn refusals_without_a_condition_take_no_tests() {
 #[test]
 fn a_short_buffer_takes_no_tests() {
     // Accepted, broken and refused otherwise.
-    for file in [examples::b(), examples::a(), examples::f(), examples::g()] {
+    let no_start = join(&[variable(0, 2), start(no()), invariance(yes()), node(yes())]);
+    for file in [
+        examples::b(),
+        examples::a(),
+        examples::f(),
+        examples::g(),
+        no_start,
+    ] {
         for length in [0, 31] {
             let verdict = check(&file, &mut vec![0; length]);
             assert_eq!((verdict.number, verdict.tests), (1, 0));

@@ -56,11 +56,11 @@ fn with_start(low: i16, high: i16, truth: Bytes) -> Bytes {
 
 /// What a number is worth at a value of variable 0.
 fn worth_at(expression: Bytes, value: i16) -> i32 {
-    let bytes = with_start(-1000, 1000, less(expression, constant(0)));
+    let bytes = with_start(-1000, 1000, itself(expression));
     let mut state = [0; 12];
     state[0] = value;
     match read(&bytes).unwrap().start {
-        Truth::Less(pair) => number(&pair.0, &state),
+        Truth::Equal(pair) => number(&pair.0, &state),
         other => panic!("{other:?}"),
     }
 }
@@ -283,7 +283,7 @@ fn chains_that_need_them() {
 /// The start compares a quotient or remainder of variable 0. Records: 0 variable, 1 start, 2 the
 /// comparison, 3 the quotient, 4 its left operand, 5 the divisor.
 fn divided_by(part: fn(Bytes, Bytes) -> Bytes, divisor: Bytes) -> Bytes {
-    with_start(0, 2, less(part(value(0), divisor), constant(0)))
+    with_start(0, 2, less(part(value(0), divisor), constant(9)))
 }
 
 fn set(mut file: Bytes, record: u32, byte: usize, value: u8) -> Bytes {
@@ -331,7 +331,7 @@ fn the_right_operand_is_the_divisor() {
         for left in [constant(0), constant(-1), value(0), indicator(no())] {
             let place = 4 + count(&left);
             let of = |right| part(left.clone(), right);
-            let file = |right| with_start(0, 2, less(of(right), constant(0)));
+            let file = |right| with_start(0, 2, less(of(right), constant(9)));
             assert_eq!(unnamed(&file(constant(1))), (0, 2));
             assert_eq!(unnamed(&file(constant(0))), (19, place));
         }
@@ -575,9 +575,9 @@ fn every_answer_has_it() {
 
 // ------------------------------------------------------------------------------ intervals
 
-/// Compares a number over v in that range with 0; its first record is record 3.
+/// Compares a number over v in that range with itself; its first record is record 3.
 fn interval_of(low: i16, high: i16, number: Bytes) -> (u8, u32) {
-    unnamed(&with_start(low, high, less(number, constant(0))))
+    unnamed(&with_start(low, high, itself(number)))
 }
 
 /// Asserts that a number's interval goes from the one to the other: each end is moved to a bound,

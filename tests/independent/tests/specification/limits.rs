@@ -116,8 +116,8 @@ fn sixteen_levels_of_numbers() {
 #[test]
 fn sixteen_levels_of_both_sorts() {
     let deep = |indicators: usize| {
-        let least = less(value(0), constant(1));
-        let nested = (0..indicators).fold(least, |truth, _| less(indicator(truth), constant(1)));
+        let below = less(value(0), constant(0));
+        let nested = (0..indicators).fold(below, |truth, _| less(indicator(truth), constant(1)));
         let file = join(&[
             variable(0, 0),
             start(nested),
@@ -126,7 +126,7 @@ fn sixteen_levels_of_both_sorts() {
         ]);
         unnamed(&file)
     };
-    // Each indicator adds two levels; the innermost numbers stand one level below.
+    // Each indicator adds two levels, and negates; the innermost numbers stand one level below.
     assert_eq!(deep(7), (0, 2));
     assert_eq!(deep(8), (5, 2 + 16));
 }
@@ -176,7 +176,7 @@ fn a_million_and_one() {
     let with = |number| {
         let file = join(&[
             variable(0, 0),
-            start(less(number, constant(0))),
+            start(itself(number)),
             invariance(yes()),
             node(yes()),
         ]);

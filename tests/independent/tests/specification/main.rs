@@ -10,3 +10,4 @@ mod examples;
 mod limits;
 mod refusals;
 mod runs;
+mod start;

@@ -1,4 +1,4 @@
-//! Refusals 3 to 12: numbers, places, order.
+//! Refusals 3 to 12: numbers, places, order. 19 is in division.rs, 20 in start.rs.
 
 use crate::builder::*;
 use crate::examples;
@@ -242,7 +242,7 @@ fn intervals_of_each_operation() {
         let file = join(&[
             variable(-1000, 2),
             variable(-3, 1000),
-            start(less(number, constant(0))),
+            start(itself(number)),
             invariance(yes()),
             node(yes()),
         ]);

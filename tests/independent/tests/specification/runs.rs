@@ -89,8 +89,8 @@ fn claimed(file: &File, run: &[State]) -> bool {
         }
 }
 
-/// C12.11: of all runs, from any state (C6.3). C5.4: their states are states. Of broken files some
-/// claims are false.
+/// C12.11: of all runs, from any state (C6.3). C7.10: one of them begins in a starting state. C5.4:
+/// their states are states. Of broken files some claims are false.
 #[test]
 fn what_accepted_files_claim_is_true() {
     let mut random = Random(3);
@@ -114,6 +114,7 @@ fn what_accepted_files_claim_is_true() {
         if verdict(&bytes).number == 0 {
             accepted[kind] += 1;
             assert!(runs().all(|run| claimed(&file, &run)), "{file:?}");
+            assert!(runs().any(|run| truth(&file.start, &run[0])), "{file:?}");
             assert!(runs().flatten().all(|state| all.contains(&state)));
         } else if !runs().all(|run| claimed(&file, &run)) {
             false_claims[kind] += 1;

@@ -10,6 +10,22 @@ By a constant above 0, div and mod of SMT-LIB are quotient and remainder, for ne
 
 >>> term((v - 1) // 5 + (v - 1) % 5)
 '(+ (div (- v0 1) 5) (mod (- v0 1) 5))'
+
+A step is to hold for all picks. So it is broken where there are picks, constants beside the state,
+by which it leads astray.
+
+>>> s = vd.System()
+>>> v, w = s.variable("v", 0, 9), s.variable("w", 0, 9)
+>>> s.start(v == 0)
+>>> t = s.transition("t", v < 9, w.pick(2, 3))
+>>> d = vd.Diagram(s, vd.invariance(vd.true))
+>>> node = d.node(v <= w)
+>>> lines = script(d.to_bytes(), 4).splitlines()
+>>> for line in [*lines[5:7], lines[-3]]:
+...     print(line)
+(declare-const pick0-1 Int)
+(assert (<= 2 pick0-1 3))
+(assert (and (node0 v0 v1) (guard0 v0 v1) (and true) (not (or false (node0 v0 pick0-1)))))
 """
 
 import resource
@@ -39,7 +55,7 @@ def term(e):
 
 
 def script(file, conditions):
-    """Declares the file's variables, nodes and guards, then asks whether there is a state that
+    """Declares the file's variables, picks, nodes and guards, then asks whether there is a state that
     satisfies the start, and of each of so many conditions, the first ones, whether there is a state
     that breaks it."""
     reading = vd.Reading(file)
@@ -57,6 +73,10 @@ class Script:
         self.variables = ["v%d" % i for i in range(len(reading.variables))]
         for name, (low, high) in zip(self.variables, reading.variables):
             self.lines += ["(declare-const %s Int)" % name, inside(name, (low, high), "(assert %s)")]
+        for t in reading.transitions:
+            for pick in t.picks:
+                self.lines += ["(declare-const %s Int)" % picked(t, pick),
+                               inside(picked(t, pick), (pick.low, pick.high), "(assert %s)")]
         for i, assertion in enumerate(reading.nodes):
             self.define("node%d" % i, assertion)
         for t in reading.transitions:
@@ -92,9 +112,10 @@ class Script:
         return both(here, guard, fits, negated(any_of(targets)))
 
     def step(self, transition):
-        """A transition's guard, that its values are in range, and the state after it."""
+        """A transition's guard, that its values are in range, and the state after it, as picked."""
         values = {variable: term(value) for variable, value in transition.assignments}
         fits = [inside(value, self.reading.variables[i]) for i, value in values.items()]
+        values.update((pick.variable, picked(transition, pick)) for pick in transition.picks)
         after = [values.get(i, name) for i, name in enumerate(self.variables)]
         return self.at("guard%d" % transition.index), both("true", *fits), after
 
@@ -103,6 +124,11 @@ class Script:
         edges = [e for e in self.reading.edges if (e.source, e.transition) == (node, transition)]
         own = [] if any(e.double for e in edges) else [node]
         return sorted({*own, *(e.target for e in edges)})
+
+
+def picked(transition, pick):
+    """What stands for the value of a pick. Each has one, so that there are always such values."""
+    return "pick%d-%d" % (transition.index, pick.variable)
 
 
 def both(*truths):

@@ -26,11 +26,12 @@ A file is built from expressions in Python:
 On numbers there are + - * // % == != < <= > >=, on truths & | ~ >> (implies) and == (iff). // and %
 are by a constant above 0 and round down, as Python does: -7 // 2 is -4, -7 % 2 is 1. A truth used
 as a number is its indicator, 1 if true, else 0. Long chains of &, | and + are written as balanced
-trees, so that nesting stays low. Nothing here keeps anyone from building a file that the checker
-refuses.
+trees, so that nesting stays low. Beside v.set(value), a transition may have v.pick(low, high): any
+of the values low..high. Nothing here keeps anyone from building a file that the checker refuses.
 """
 
 import argparse
+import itertools
 import os
 import struct
 import sys
@@ -42,10 +43,10 @@ __all__ = ["System", "Diagram", "invariance", "wait_for", "chain", "true", "fals
 
 # Limits of a file.
 BYTES, VARIABLES, TRANSITIONS, NODES, EDGES, LEVELS, STATES = 32768, 12, 32, 32, 512, 16, 1048576
-BOUND = 1000000
+BOUND, COMBINATIONS = 1000000, 4096
 
 # Kinds of records.
-RANGE, START, TRANSITION, ASSIGNMENT, PROPERTY, NODE, EDGE = range(0x01, 0x08)
+RANGE, START, TRANSITION, ASSIGNMENT, PROPERTY, NODE, EDGE, PICK = range(0x01, 0x09)
 CONSTANT, VARIABLE, SUM, DIFFERENCE, PRODUCT, INDICATOR = range(0x10, 0x16)
 QUOTIENT, REMAINDER = 0x18, 0x19
 TRUE, FALSE, NOT, AND, OR, IMPLIES, IFF, EQUAL, LESS, AT_MOST = range(0x20, 0x2A)
@@ -171,7 +172,12 @@ class Variable(Number):
 
     def set(self, value):
         """An assignment of the value to this variable."""
-        return self.index, number(value)
+        return Assignment(self.index, number(value))
+
+    def pick(self, low=None, high=None):
+        """A pick for this variable: any of these values or, if none are given, of its range."""
+        return Pick(self.index, self.low if low is None else low,
+                    self.high if high is None else high)
 
     def among(self, *values):
         return any_of(self == value for value in values)
@@ -230,14 +236,39 @@ def total(numbers):
 
 # ---- systems and diagrams
 
+class Assignment(namedtuple("Assignment", "variable value")):
+    def to_bytes(self):
+        return record(ASSIGNMENT, self.variable) + self.value.to_bytes()
+
+
+class Pick(namedtuple("Pick", "variable low high")):
+    def to_bytes(self):
+        return record(PICK, self.variable, self.low, self.high)
+
+
 class Transition:
-    def __init__(self, index, name, just, guard, assignments):
+    """Its effects are assignments and picks, in the file's order."""
+
+    def __init__(self, index, name, just, guard, effects):
         self.index, self.name, self.just = index, name, just
-        self.guard, self.assignments = guard, assignments
+        self.guard, self.effects = guard, effects
+
+    @property
+    def assignments(self):
+        return [e for e in self.effects if isinstance(e, Assignment)]
+
+    @property
+    def picks(self):
+        """By variable."""
+        return sorted(e for e in self.effects if isinstance(e, Pick))
+
+    def combinations(self):
+        """How many combinations of picks there are."""
+        return state_count([(p.low, p.high) for p in self.picks])
 
     def to_bytes(self):
         return record(TRANSITION, int(self.just)) + self.guard.to_bytes() + b"".join(
-            record(ASSIGNMENT, variable) + value.to_bytes() for variable, value in self.assignments)
+            effect.to_bytes() for effect in self.effects)
 
 
 class System:
@@ -253,10 +284,11 @@ class System:
     def start(self, condition):
         self.initial = truth(condition)
 
-    def transition(self, name, guard, *assignments, just=False):
-        """The assignments are made by Variable.set; all are worked out from the state before."""
+    def transition(self, name, guard, *effects, just=False):
+        """The effects are made by Variable.set and Variable.pick; all values that are set are
+        worked out from the state before."""
         self.transitions.append(
-            Transition(len(self.transitions), name, just, truth(guard), assignments))
+            Transition(len(self.transitions), name, just, truth(guard), effects))
         return self.transitions[-1]
 
     def __getitem__(self, name):
@@ -436,7 +468,7 @@ class Reading:
             self._edge(seen)
 
     def _transition(self):
-        expected = "an assignment, a transition or the property" if self.transitions else \
+        expected = "an assignment, a pick, a transition or the property" if self.transitions else \
             "a transition or the property"
         fields = self._take((TRANSITION,), expected, a=(0, 1))
         self._limit(len(self.transitions), TRANSITIONS, "transition")
@@ -444,14 +476,25 @@ class Reading:
         self._item("transition %d" % index)
         guard = self._expression(Truth)
         self.transitions.append(Transition(index, None, bool(fields.a), guard, []))
-        assignments = self.transitions[-1].assignments
-        while self._here(ASSIGNMENT):
-            variable = self._take((ASSIGNMENT,), "an assignment", a=None).a
-            self._named("variable", variable, self.variables)
-            if any(variable == other for other, _ in assignments):
-                self._refuse(6, "transition %d assigns variable %d again" % (index, variable))
-            self._item("transition %d, its assignment to variable %d" % (index, variable))
-            assignments.append((variable, self._expression(Number)))
+        while self._here(ASSIGNMENT, PICK):
+            self._effect(self.transitions[-1])
+
+    def _effect(self, transition):
+        picks = self._here(PICK)
+        named = {"b": None, "c": None} if picks else {}
+        fields = self._take((ASSIGNMENT, PICK), "an assignment or a pick", a=None, **named)
+        self._named("variable", fields.a, self.variables)
+        low, high = self.variables[fields.a]
+        if picks and not low <= fields.b <= fields.c <= high:
+            self._refuse(4, "the values %d..%d are %s" % (
+                fields.b, fields.c, "none" if fields.b > fields.c else
+                "not all in the range %d..%d of variable %d" % (low, high, fields.a)))
+        if any(effect.variable == fields.a for effect in transition.effects):
+            self._refuse(6, "transition %d sets variable %d again" % (transition.index, fields.a))
+        self._item("transition %d, its %s variable %d" % (
+            transition.index, "pick for" if picks else "assignment to", fields.a))
+        transition.effects.append(Pick(fields.a, fields.b, fields.c) if picks else
+                                  Assignment(fields.a, self._expression(Number)))
 
     def _property(self):
         phased = self.records[self.at].a == WAIT_FOR
@@ -535,6 +578,10 @@ class Names:
     def state(self, values):
         return ", ".join("%s = %d" % (self.variable(i), x) for i, x in enumerate(values))
 
+    def effect(self, effect):
+        return "%s := %s" % (self.variable(effect.variable), "any of %d..%d" % effect[1:]
+                             if isinstance(effect, Pick) else self.expression(effect.value))
+
     def edge(self, edge):
         return "edge %d %s> %d by %s" % (edge.source, "=" if edge.double else "-", edge.target,
                                          self.transition(edge.transition))
@@ -578,8 +625,8 @@ def lines(reading, names=Names()):
     for t in reading.transitions:
         yield "transition %d %s%s: %s" % (t.index, names.transition(t.index),
                                           " just" if t.just else "", names.expression(t.guard))
-        for variable, value in t.assignments:
-            yield "    %s := %s" % (names.variable(variable), names.expression(value))
+        for effect in t.effects:
+            yield "    " + names.effect(effect)
     if reading.property is not None:
         yield "property %s" % PROPERTY_NAMES[reading.property]
         for name, claim in zip(reading.claim_names(), reading.claims):
@@ -644,11 +691,27 @@ def interval(e, ranges):
 
 
 def assigned(transition, state):
-    """The state with the transition's values assigned, all worked out from the state before."""
+    """The state with the transition's values assigned, all worked out from the state before, and
+    none picked."""
     after = list(state)
     for variable, e in transition.assignments:
         after[variable] = value(e, state)
     return after
+
+
+def successors(transition, state):
+    """The successors of a state where the transition is enabled, in the order of their numbers: one
+    for each combination of picks.
+
+    >>> v, w = Variable(0, "v", 0, 9), Variable(1, "w", 0, 9)
+    >>> list(successors(Transition(0, "t", False, true, [w.pick(0, 1), v.set(v + 1)]), [3, 5]))
+    [[4, 0], [4, 1]]
+    """
+    after, picks = assigned(transition, state), transition.picks
+    for values in itertools.product(*(range(p.low, p.high + 1) for p in picks)):
+        for pick, x in zip(picks, values):
+            after[pick.variable] = x
+        yield list(after)
 
 
 # ---- reports
@@ -660,7 +723,7 @@ MEANINGS = {
     3: "a record has a kind that cannot stand there, or the file ends where a record must stand",
     4: "a field has a value that its kind does not allow, or names nothing in the file",
     5: "there is one too many of the variables, transitions, nodes, edges or levels",
-    6: "a transition has a second assignment for a variable, or an edge is there twice",
+    6: "a transition sets a variable twice, or an edge is there twice",
     7: "there are more than 1,048,576 states",
     8: "the interval of a number leaves -1,000,000..1,000,000",
     9: "an edge is not allowed, by itself or with edges before it",
@@ -671,10 +734,11 @@ MEANINGS = {
     14: "entry is broken: p does not imply some node",
     15: "cover is broken: a node does not imply its q",
     16: "range is broken: a node and a guard hold, and a value leaves its range",
-    17: "step is broken: a transition leaves its node, not by an edge",
+    17: "step is broken: a transition can leave its node, not by an edge",
     18: "enabling is broken: a node does not imply its double transition enabled",
     19: "the divisor of a quotient or remainder is not a constant above 0",
     20: "no state satisfies the start",
+    22: "a transition has more than 4,096 combinations of picks",
 }
 # Those that end a reading.
 UNREAD = (2, 3, 4, 5, 6, 19)
@@ -738,6 +802,11 @@ def conditions(reading):
                 yield ENABLING, node, transition
 
 
+def overfull(reading):
+    """The first transition that has too many combinations of picks; None if there is none."""
+    return next((t for t in reading.transitions if t.combinations() > COMBINATIONS), None)
+
+
 def edge_fault(reading, index):
     """Which edge rule the edge breaks, given those before it; None if it breaks none."""
     edge, kind = reading.edges[index], reading.property
@@ -799,7 +868,7 @@ def _explain(report, reading, names):
     out = ["refused, %d: %s" % (report.number, MEANINGS[report.number])]
     if report.number in CONDITION_NAMES:
         return out + _condition(report, reading, names)
-    if 3 <= report.number <= 9 or report.number == 19:
+    if 3 <= report.number <= 9 or report.number in (19, 22):
         out.append("place: %s %d" % ("variable" if report.number == 7 else "record", report.at))
     elif report.number == 10:
         out.append("place: node %d" % report.at)
@@ -826,6 +895,12 @@ def _place(report, reading, names):
         count = state_count(reading.variables[:at + 1])
         if count > STATES:
             return "the ranges up to that of %s make %d states" % (names.variable(at), count)
+    over = overfull(reading)
+    if report.number == 22 and over and (at, "transition %d" % over.index) in reading.items:
+        return "%s picks %s: %d combinations" % (
+            names.transition(over.index), " and ".join(
+                "%s of %d..%d" % (names.variable(p.variable), p.low, p.high) for p in over.picks),
+            over.combinations())
     if report.number == 8 and isinstance(reading.expressions.get(at), Number):
         e = reading.expressions[at]
         low, high = interval(e, reading.variables)
@@ -859,6 +934,9 @@ def _condition(report, reading, names):
     if reading.stop:
         raise Mismatch("the report names a condition, but the file stops at record %d: %s"
                        % (reading.stop.record, reading.stop.reason))
+    if overfull(reading):
+        raise Mismatch("the report names a condition, but transition %d has over %d combinations "
+                       "of picks" % (overfull(reading).index, COMBINATIONS))
     if list(conditions(reading))[report.at:report.at + 1] != [report[:3]]:
         raise Mismatch("the file has no such %s" % text)
     state = report.values[:len(reading.variables)]
@@ -888,9 +966,9 @@ def _why(reading, report, state, names):
             "node %d is true, and %s is not" % (node, reading.claim_names()[q])
     transition = reading.transitions[report.transition]
     name = names.transition(transition.index)
-    guard, after = value(transition.guard, state), assigned(transition, state)
+    guard = value(transition.guard, state)
     outside = ["%s = %d, outside %d..%d" % (names.variable(i), x, *reading.variables[i])
-               for i, x in enumerate(after)
+               for i, x in enumerate(assigned(transition, state))
                if not reading.variables[i][0] <= x <= reading.variables[i][1]]
     if report.number == IN_RANGE:
         return "node %d and the guard of %s are true, and it would set %s" % (
@@ -899,17 +977,32 @@ def _why(reading, report, state, names):
         return None if guard and not outside else "node %d is true, and %s is not enabled: %s" % (
             node, name, "its guard is false" if not guard else
             "it would set " + " and ".join(outside))
+    return _astray(reading, node, transition, state, names) if guard and not outside else None
+
+
+def _astray(reading, node, transition, state, names):
+    """How the enabled transition leads where it must not from the node, by its lowest successor
+    that does; None if none does."""
     edges = [e for e in reading.edges if (e.source, e.transition) == (node, transition.index)]
-    targets = [e.target for e in edges]
-    if not any(e.double for e in edges):
-        targets.append(node)
-    if not guard or outside or any(value(reading.nodes[t], after) for t in targets):
+    own = [] if any(e.double for e in edges) else [node]
+    targets = sorted({*own, *(e.target for e in edges)})
+    after = next((after for after in successors(transition, state)
+                  if not any(value(reading.nodes[t], after) for t in targets)), None)
+    if after is None:
         return None
-    met = [str(i) for i, assertion in enumerate(reading.nodes) if value(assertion, after)]
-    return "node %d is true, and %s leads to %s; that satisfies %s, and must satisfy %s %s" % (
-        node, name, names.state(after),
-        "no node" if not met else "only node%s %s" % ("s" * (len(met) > 1), ", ".join(met)),
-        "node" if len(targets) == 1 else "one of the nodes", ", ".join(map(str, sorted(targets))))
+    met = [i for i, assertion in enumerate(reading.nodes) if value(assertion, after)]
+    picked = " and ".join("%s = %d" % (names.variable(p.variable), after[p.variable])
+                          for p in transition.picks)
+    return "node %d is true, and %s %s %s; that %s %s, and must satisfy %s%s" % (
+        node, names.transition(transition.index),
+        "may pick %s and lead to" % picked if picked else "leads to", names.state(after),
+        "successor satisfies" if picked else "satisfies",
+        "only %s" % _nodes(met) if met else "no node", "one of the " * (len(targets) > 1),
+        _nodes(targets))
+
+
+def _nodes(numbers):
+    return "node%s %s" % ("s" * (len(numbers) > 1), ", ".join(map(str, numbers)))
 
 
 # ---- the command

@@ -36,6 +36,8 @@ def models():
     yield _file("ring", systems.ring())
     yield _file("ring-broken", systems.ring(broken=True), (3, 1020101))
     yield _file("laps", systems.laps())
+    yield _file("desks", systems.desks())
+    yield _file("desks-broken", systems.desks(broken=True), (5, 803076))
 
 
 def random():
@@ -76,6 +78,9 @@ def adversaries():
         yield _file("giant-%d" % transitions, adversarial.giant(transitions))
     for transitions in (1, 16):
         yield _file("hostile-%d" % transitions, adversarial.hostile(transitions))
+    yield _file("picked-identity", adversarial.identity_picked())
+    yield _file("picked-parity", adversarial.parity_picked())
+    yield _file("picked-last", adversarial.picked_last(), (3, 255 << 12))
     yield _file("start-even-and-odd", adversarial.even_and_odd(), NO_START)
     yield _file("start-last", adversarial.even_and_odd(last=True))
 
@@ -87,8 +92,12 @@ def most(size):
 
 
 def stack():
+    last = 3, (1 << 20) - 1
     yield _file("smallest", extreme.smallest())
     for shape in (*extreme.AROUND, *extreme.WORTH):
         for broken in (False, True):
             yield _file("deep-%s%s" % (shape, "-broken" * broken), extreme.deep(shape, broken),
-                        (3, (1 << 20) - 1) if broken else None)
+                        last if broken else None)
+    for broken in (False, True):
+        yield _file("deep-picks%s" % ("-broken" * broken), extreme.picked(broken),
+                    last if broken else None)

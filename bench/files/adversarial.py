@@ -57,8 +57,8 @@ def flips(s, first, t):
 
 def diagram(s, start, transitions, q, nodes):
     s.start(start)
-    for guard, assignments in transitions:
-        s.transition("t", guard, *assignments)
+    for guard, effects in transitions:
+        s.transition("t", guard, *effects)
     d = Diagram(s, invariance(q))
     for node in nodes:
         d.node(node)
@@ -96,7 +96,7 @@ def parity_broken_step(nodes, transitions):
     broken, at the last state but one."""
     d = parities(nodes, transitions, LARGE)
     s, last = d.system, d.system.transitions[-1]
-    last.guard, last.assignments = all_of(v == v.high for v in s.variables[:-1]), flip(s, 11)
+    last.guard, last.effects = all_of(v == v.high for v in s.variables[:-1]), flip(s, 11)
     for n in range(nodes - 1):
         d.edge(last, n, n ^ 1)
     return d
@@ -171,3 +171,38 @@ def even_and_odd(last=False):
     if last:
         odd = Truth(OR, odd, nested(AND, [v == v.high for v in s.variables]))
     return diagram(s, Truth(AND, parity(s.variables), odd), [], true, [true])
+
+
+def identity_picked():
+    """The identity, and a step that picks any pair of values: 4,096 combinations, in which intervals
+    don't see it. The step is enabled in 1,024 states, so that there are 4 million successors to
+    test, some tenths of a second; in all states they would be 17 million."""
+    s = System()
+    x, y = s.variable("x", 0, 63), s.variable("y", 0, 63)
+    same = (x + y) * (x - y) == x * x - y * y
+    return diagram(s, same, [(x < 16, [x.pick(), y.pick()])], same, [same])
+
+
+def parity_picked():
+    """A node for even and one for odd, and a step that picks twelve bits anew: each of the 4,096
+    successors is in one of the nodes, and intervals tell of single ones only. The step is enabled in
+    256 states, so that there are a million successors to test, some tenths of a second."""
+    s = twelve(SMALL)
+    d = diagram(s, parity(s.variables),
+                [(all_of(v == 0 for v in s.variables[:4]), [v.pick() for v in s.variables])], true,
+                [parity(s.variables), parity(s.variables, True)])
+    for n in (0, 1):
+        d.edge(s.transitions[0], n, 1 - n)
+    return d
+
+
+def picked_last():
+    """A node that is true in all states but the last, by a sum that is that of the same numbers
+    backward. The step leads there by one of its 4,096 combinations, from the last of the 256 states
+    where it is enabled; intervals don't see of the other million successors that they are right."""
+    s = System()
+    slow, *others = [s.variable("v0", 0, 255)] + [s.variable("v%d" % i, 0, 7) for i in range(1, 5)]
+    forward, backward = total(s.variables), total(s.variables[::-1])
+    node = Truth(AND, forward == backward, ~(forward == sum(v.high for v in s.variables)))
+    return diagram(s, slow == 0, [(all_of(v == 0 for v in others), [v.pick() for v in others])],
+                   true, [node])

@@ -63,6 +63,14 @@ def repeated(times, around, x):
     return x
 
 
+def picked(broken):
+    """As `deep`, and the step picks a value of each variable: the high end alone, or one of two, so
+    that there are 4,096 combinations."""
+    d = deep("sum-right", False)
+    d.system.transitions[0].effects = [v.pick(v.high - broken, v.high) for v in d.system.variables]
+    return d
+
+
 def deep(shape, broken):
     """Every expression nests 16 levels, in that shape, and is true at the last state alone, where all
     variables have their high ends: found by as many halves as there can be. The step stays there

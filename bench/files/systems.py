@@ -1,4 +1,5 @@
-"""Models of systems: editors who share a page, clocks, readers in a ring of pages, philosophers."""
+"""Models of systems: editors who share a page, clocks, readers in a ring of pages, philosophers,
+desks on which volumes are laid."""
 
 from models.pages import NAME, WAITS, Pages, names
 from vd import Diagram, System, all_of, any_of, invariance
@@ -8,6 +9,8 @@ THINKS, HUNGRY, LEFT, EATS, RIGHT = range(5)
 DOWN = 0
 # The pages of a ring, and of a lap.
 RING, LAP = 101, 100
+# The desks, and the volumes that a desk may get, of twice as many.
+DESKS, VOLUMES = 6, 4
 
 
 def pages_one_node():
@@ -98,4 +101,29 @@ def philosophers():
     d = Diagram(s, invariance(all_of(~all_of(pc[i - 1] == EATS, pc[i] == EATS) for i in seats)))
     d.node(all_of(all_of((pc[i].among(LEFT, EATS)) == (fork[i] == 1 + i),
                          (pc[i].among(EATS, RIGHT)) == (fork[i - 1] == 1 + i)) for i in seats))
+    return d
+
+
+def desks(broken=False):
+    """A clerk lays a volume on each of six desks, any of the lower four on an even one, any of the
+    upper four on an odd one: neighbours never get the same. Or, broken, it is claimed that not all
+    get the last that they may get: the step of transition 1 is broken by one of its 4,096
+    combinations, at state 803,076, the first of the node where it is enabled.
+
+    The clerk waits until the last hour is over and the first desk has volume 0. So the step is
+    enabled in 1,024 states of the node, and there are 4 million successors, which the loops alone
+    test in a second or two; without the second part of the guard they would be 17 million."""
+    s = System()
+    hour = s.variable("hour", 0, 3)
+    desk = [s.variable("desk%d" % i, 0, 2 * VOLUMES - 1) for i in range(DESKS)]
+    least = [i % 2 * VOLUMES for i in range(DESKS)]
+    s.start(all_of(hour == 0, *(v == low for v, low in zip(desk, least))))
+    s.transition("read", hour < 3, hour.set(hour + 1))
+    s.transition("lay", all_of(hour == 3, desk[0] == 0), hour.set(0),
+                 *(v.pick(low, low + VOLUMES - 1) for v, low in zip(desk, least)))
+    own = all_of((v >= low) & (v < low + VOLUMES) for v, low in zip(desk, least))
+    some = ~all_of(v == low + VOLUMES - 1 for v, low in zip(desk, least))
+    d = Diagram(s, invariance(some if broken else all_of(
+        v != other for v, other in zip(desk, desk[1:]))))
+    d.node(all_of(own, some) if broken else own)
     return d

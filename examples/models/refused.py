@@ -65,6 +65,26 @@ def at_work(join=any_of, held=True):
     return d
 
 
+def found(pages=64, lines=65, at_once=True):
+    """A search shows any line of a volume, but not while a page is held. It goes there in one step
+    or, not `at_once`, in two."""
+    s = System()
+    page, line = s.variable("page", 0, pages - 1), s.variable("line", 0, lines - 1)
+    held = s.variable("held", -1, pages - 1)
+    s.start(all_of(page == 0, line == 0, held == -1))
+    if at_once:
+        s.transition("find", held == -1, page.pick(), line.pick())
+    else:
+        s.transition("turn", held == -1, page.pick())
+        s.transition("point", held == -1, line.pick())
+    s.transition("hold", held == -1, held.set(page))
+    s.transition("free", held >= 0, held.set(-1))
+    claim = any_of(held == -1, held == page)
+    d = Diagram(s, invariance(claim))
+    d.node(claim)
+    return d
+
+
 EXAMPLES = [
     Example("refused-02-length", """
         The file b with a line feed after its last record, as a text editor or a transfer in text
@@ -199,4 +219,17 @@ EXAMPLES = [
         with "or" in both places the checker refuses with 17, as editor 1 has the page, and editor
         0, who waits, takes it as well. With "or", and the lock looked at, it accepts.
         """, at_work(join=all_of, held=False), refused(20)),
+    Example("refused-22-picks", """
+        A volume of 64 pages with 65 lines each. An editor's search shows any line of it (find),
+        unless a page is held: held is the page that is locked for correction, -1 while none is. The
+        claim is an invariance: the page that is held is the one that is shown. The checker refuses
+        with 22: find picks a page and a line at once, 64 times 65, that is 4,160 combinations, and
+        4,096 are allowed, so that a test at one state stays short.
+
+        The same in two steps is accepted: one transition that picks the page, one that picks the
+        line, both only while no page is held. There are 64 combinations of the one and 65 of the
+        other, and every line can still be shown. But between the two the page is new and the line
+        is the old one; a claim about page and line together has to allow for that. Where it can't,
+        a variable that says where the search stands keeps other steps from coming between.
+        """, found(), refused(22, 15)),
 ]

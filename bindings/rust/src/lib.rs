@@ -82,7 +82,7 @@ pub enum Outcome {
     Refused(Refusal),
 }
 
-/// A refusal before any condition, 1 to 12, 19 or 20, with its number and its place: a record, a variable or a node, by the number.
+/// A refusal before any condition, 1 to 12, 19, 20 or 22, with its number and its place: a record, a variable or a node, by the number.
 #[derive(Clone, Copy, Debug, PartialEq, Eq)]
 pub struct Refusal {
     pub number: u8,
@@ -145,13 +145,29 @@ pub fn check_into(file: &[u8], report: &mut [u8]) -> Verdict {
 /// assert_eq!(refusal.to_string(), "refused with 20: no state satisfies the start");
 /// assert_eq!(vd::check(&file).outcome(), vd::Outcome::Refused(refusal));
 /// assert_eq!(vd::check(&file).tests, 0);
+///
+/// // C10.22, likewise: a variable in 0..4096, a start that is true, and a transition that picks any of its values.
+/// let mut file = Vec::new();
+/// for [kind, a, high] in [
+///     [0x01, 0, 16], [0x02, 0, 0], [0x20, 0, 0], [0x03, 0, 0], [0x20, 0, 0], [0x08, 0, 16], [0x05, 1, 0], [0x20, 0, 0], [0x06, 0, 0],
+///     [0x20, 0, 0],
+/// ] {
+///     file.extend([kind, a, 0, 0, 0, high, 0, 0]);
+/// }
+/// let refusal = vd::single(&file, 0, 0).unwrap_err();
+/// assert_eq!(refusal.to_string(), "refused with 22: a transition has more than 4,096 combinations of picks (record 3)");
+/// assert_eq!(vd::check(&file).outcome(), vd::Outcome::Refused(refusal));
+///
+/// // C5.3, C8.11: any of 1..4096 are few enough, and the node, true, allows each.
+/// file[5 * 8 + 2] = 1;
+/// assert_eq!(vd::check(&file).outcome(), vd::Outcome::Accepted { conditions: 4 });
 /// ```
 pub fn single(file: &[u8], condition: usize, state: usize) -> Result<bool, Refusal> {
     // SAFETY: pointer and length are those of a slice, which the library only reads.
     let tested = unsafe { vd_single(file.as_ptr(), file.len(), condition, state) };
     match tested.number {
         0 => Ok(tested.holds),
-        // The numbers end at 20, and a place is at most a record count: a file of over 32,768 bytes has place 0.
+        // The numbers end at 22, and a place is at most a record count: a file of over 32,768 bytes has place 0.
         number => Err(Refusal {
             number: number as u8,
             place: tested.place as u32,
@@ -224,7 +240,7 @@ impl fmt::Display for Refusal {
     fn fmt(&self, f: &mut fmt::Formatter) -> fmt::Result {
         write!(f, "refused with {}: {}", self.number, meaning(self.number))?;
         match self.number {
-            3..=6 | 8 | 9 | 19 => write!(f, " (record {})", self.place),
+            3..=6 | 8 | 9 | 19 | 22 => write!(f, " (record {})", self.place),
             7 => write!(f, " (variable {})", self.place),
             10 => write!(f, " (node {})", self.place),
             _ => Ok(()),
@@ -243,7 +259,7 @@ pub fn meaning(number: u8) -> &'static str {
         3 => "a record has a kind that cannot stand there, or the file ends where a record must stand",
         4 => "a field has a value that its kind does not allow, or names nothing in the file",
         5 => "there is one too many of the variables, transitions, nodes, edges or levels",
-        6 => "a transition has a second assignment for a variable, or an edge is there twice",
+        6 => "a transition sets a variable twice, or an edge is there twice",
         7 => "there are more than 1,048,576 states",
         8 => "the interval of a number leaves -1,000,000..1,000,000",
         9 => "an edge is not allowed, by itself or with edges before it",
@@ -258,6 +274,7 @@ pub fn meaning(number: u8) -> &'static str {
         18 => "enabling",
         19 => "the divisor of a quotient or remainder is not a constant above 0",
         20 => "no state satisfies the start",
+        22 => "a transition has more than 4,096 combinations of picks",
         _ => "no number of refusal",
     }
 }

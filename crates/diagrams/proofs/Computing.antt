@@ -21,11 +21,11 @@ unfoldable pub computing : Unit {0}
 unfolding reading Bytes.lowByte Bytes.highByte Radix.at Tests.eqZ Walk.spans Walk.span Table.tabulate Table.tableOf Place.placesOf
     Expression.firstOperand Expression.secondOperand Expression.indicatorOf Expression.connectOf Expression.compareOf
     Expression.numberBy Expression.truthBy Expression.number Expression.truth Expression.holdsOf Expression.behind
-    Range.endsOf Number.countOf Number.stateOf Number.numberOf
-    Transition.assignmentAt Transition.assignmentsFrom Transition.inRangeOf Transition.allInRange Transition.assigned
-    Transition.assignmentList
+    Range.endsOf Number.countOf Number.stateOf Number.numberOf Number.statesBetween
+    Transition.assignmentAt Transition.pickAt Transition.updateAt Transition.updatesFrom Transition.inRangeOf Transition.allInRange Transition.updated
+    Transition.updateList
     Diagram.foundOf Diagram.assertionsOf Diagram.diagramOf Diagram.stateAt Diagram.stateNumber Diagram.edgeOf
     Truth.startHolds Truth.nodeHolds Truth.claimedAt Truth.pHolds Truth.qNumber Truth.qAt Truth.qHolds
     Start.startsOf Start.andStart
-    System.justOf System.guardHolds System.valuesFit System.nextState
+    System.justOf System.guardHolds System.valuesFit System.isEnabled System.nextStates
 computing = tt

@@ -14,9 +14,10 @@ use Rattle.records.specs.Record
 use Rattle.records.specs.Kind
 use Rattle.records.specs.Walk
 use Rattle.truths.specs.Table
+use Rattle.sections.specs.Section
 use Rattle.intervals.specs.Interval
 use Rattle.reading.proofs.Files
-use Rattle.reading.proofs.Files.{agree, range, transition, assignment, constant, variable, plain}
+use Rattle.reading.proofs.Files.{agree, range, transition, assignment, pick, constant, variable, plain}
 use Rattle.evaluating.specs.declared.Stepped.{Stepped}
 use Rattle.expressions.specs.Expression
 use Rattle.expressions.specs.Spans
@@ -28,7 +29,7 @@ use Rattle.states.specs.Number.{countOf, stateOf, numberOf}
 use Rattle.states.specs.Advance.{advanceOf}
 use Rattle.evaluating.specs.Transition
 use Rattle.evaluating.specs.Step
-use Rattle.evaluating.specs.Step.{successorOf, stepOf}
+use Rattle.evaluating.specs.Step.{successorsOf, stepOf}
 
 -- ---- tables
 -- f gives the answer at each row of a table of questions and answers
@@ -370,32 +371,60 @@ unfolding flatten Bytes.signed16 Radix.at Radix.offsetOf Table.tabulate Table.ta
 states-hold = answers stateRow states refl
 
 -- ---- transitions
--- guard, enabled and next
-abbrev stepped : Bool → Bool → List ℤ → Stepped
-stepped guard enabled next = record { guard = guard; enabled = enabled; next = next }
+-- a file, how many variables it has, the transition's record and a state; whether the guard is true, whether the step is enabled, the ends between which
+-- its successors lie, and the successors
+abbrev Question : Type 0
+Question = List ℕ × ℕ × ℕ × List ℤ
 
--- a file, how many variables it has, the transition's record and a state; what the step gives, and the state with all the values assigned, in range or not
-abbrev steps : List ((List ℕ × ℕ × ℕ × List ℤ) × (Stepped × List ℤ))
+abbrev row : Question → Bool → Bool → List ℤ → List ℤ → List (List ℤ) → Question × (Stepped × List (List ℤ))
+row q guard enabled low high successors = (q, (record { guard = guard; enabled = enabled; low = low; high = high }, successors))
+
+-- one successor; none
+abbrev leads : Question → List ℤ → Question × (Stepped × List (List ℤ))
+leads q next = row q true true next next (next ∷ [])
+
+abbrev stays : Question → Bool → Question × (Stepped × List (List ℤ))
+stays (file, vars, at, state) guard = row (file, vars, at, state) guard false state state []
+
+abbrev steps : List (Question × (Stepped × List (List ℤ)))
 steps =
     -- C5.2: A's step: v := v + 1 where v < 2
-    ((A, 1, 5, one (pos 0)), (stepped true true (one (pos 1)), one (pos 1))) ∷
-    ((A, 1, 5, one (pos 1)), (stepped true true (one (pos 2)), one (pos 2))) ∷
-    ((A, 1, 5, one (pos 2)), (stepped false false (one (pos 2)), one (pos 3))) ∷
+    leads (A, 1, 5, one (pos 0)) (one (pos 1)) ∷
+    leads (A, 1, 5, one (pos 1)) (one (pos 2)) ∷
+    stays (A, 1, 5, one (pos 2)) false ∷
     -- C5.2: C's, with guard true: at 2 the value is out of range, so the step is not enabled, and nothing is clamped
-    ((C, 1, 5, one (pos 1)), (stepped true true (one (pos 2)), one (pos 2))) ∷
-    ((C, 1, 5, one (pos 2)), (stepped true false (one (pos 2)), one (pos 3))) ∷
+    leads (C, 1, 5, one (pos 1)) (one (pos 2)) ∷
+    stays (C, 1, 5, one (pos 2)) true ∷
     -- v := v - 1 leaves the range at its low end
-    ((down, 1, 5, one (pos 1)), (stepped true true (one (pos 0)), one (pos 0))) ∷
-    ((down, 1, 5, one (pos 0)), (stepped true false (one (pos 0)), one (minus 1))) ∷
-    -- no assignment
-    ((stepping (transition 0 ++ yes), 1, 5, one (pos 1)), (stepped true true (one (pos 1)), one (pos 1))) ∷
+    leads (down, 1, 5, one (pos 1)) (one (pos 0)) ∷
+    stays (down, 1, 5, one (pos 0)) true ∷
+    -- no update
+    leads (stepping (transition 0 ++ yes), 1, 5, one (pos 1)) (one (pos 1)) ∷
     -- C5.1, C5.3: J's swaps, worked out together
-    ((J, 2, 10, two (pos 0) (pos 1)), (stepped true true (two (pos 1) (pos 0)), two (pos 1) (pos 0))) ∷
-    ((J, 2, 10, two (pos 1) (pos 0)), (stepped true true (two (pos 0) (pos 1)), two (pos 0) (pos 1))) ∷
-    ((J, 2, 10, two (pos 1) (pos 1)), (stepped true true (two (pos 1) (pos 1)), two (pos 1) (pos 1))) ∷
+    leads (J, 2, 10, two (pos 0) (pos 1)) (two (pos 1) (pos 0)) ∷
+    leads (J, 2, 10, two (pos 1) (pos 0)) (two (pos 0) (pos 1)) ∷
+    leads (J, 2, 10, two (pos 1) (pos 1)) (two (pos 1) (pos 1)) ∷
     -- b := 0, a := a + 1: where a is 1, the first value is in range and the second not, so neither is assigned
-    ((both, 2, 2, two (pos 1) (pos 1)), (stepped true false (two (pos 1) (pos 1)), two (pos 2) (pos 0))) ∷
-    ((both, 2, 2, two (pos 0) (pos 1)), (stepped true true (two (pos 1) (pos 0)), two (pos 1) (pos 0))) ∷
+    stays (both, 2, 2, two (pos 1) (pos 1)) true ∷
+    leads (both, 2, 2, two (pos 0) (pos 1)) (two (pos 1) (pos 0)) ∷
+    -- C5.3, C5.6: a pick of v's whole range, of a part of it, of one value, and under a false guard
+    row (stepping (transition 0 ++ yes ++ pick 0 0 2), 1, 5, one (pos 1)) true true (one (pos 0)) (one (pos 2)) (one (pos 0) ∷ one (pos 1) ∷ one (pos 2) ∷ []) ∷
+    row (stepping (transition 0 ++ yes ++ pick 0 1 2), 1, 5, one (pos 0)) true true (one (pos 1)) (one (pos 2)) (one (pos 1) ∷ one (pos 2) ∷ []) ∷
+    leads (stepping (transition 0 ++ yes ++ pick 0 2 2), 1, 5, one (pos 0)) (one (pos 2)) ∷
+    stays (stepping (transition 0 ++ no ++ pick 0 0 2), 1, 5, one (pos 1)) false ∷
+    -- below 0, the other variable as it was
+    row (negative (pick 1 0xffff 1), 2, 2, two (pos 2) (pos 0)) true true (two (pos 2) (minus 1)) (two (pos 2) (pos 1))
+    (two (pos 2) (minus 1) ∷ two (pos 2) (pos 0) ∷ two (pos 2) (pos 1) ∷ []) ∷
+    -- two picks: by their numbers, whichever stands first
+    row (negative (pick 1 0xffff 0 ++ pick 0 1 2), 2, 2, two (pos 0) (pos 0)) true true (two (pos 1) (minus 1)) (two (pos 2) (pos 0))
+    (two (pos 1) (minus 1) ∷ two (pos 1) (pos 0) ∷ two (pos 2) (minus 1) ∷ two (pos 2) (pos 0) ∷ []) ∷
+    -- an assignment behind a pick, and a pick behind an assignment: the value is that of the state at hand; out of range, there is no successor
+    row (negative (pick 0 1 2 ++ add), 2, 2, two (pos 0) (pos 0)) true true (two (pos 1) (pos 1)) (two (pos 2) (pos 1))
+    (two (pos 1) (pos 1) ∷ two (pos 2) (pos 1) ∷ []) ∷
+    row (negative (add ++ pick 0 1 2), 2, 2, two (pos 0) (pos 0)) true true (two (pos 1) (pos 1)) (two (pos 2) (pos 1))
+    (two (pos 1) (pos 1) ∷ two (pos 2) (pos 1) ∷ []) ∷
+    stays (negative (pick 0 1 2 ++ add), 2, 2, two (pos 0) (pos 1)) true ∷
+    stays (negative (add ++ pick 0 1 2), 2, 2, two (pos 0) (pos 1)) true ∷
     []
   where
     down : List ℕ
@@ -404,13 +433,23 @@ steps =
     both : List ℕ
     both = take (8 * 2) J ++ transition 0 ++ yes ++ assign 1 (constant 0) ++ assign 0 (sum (variable 0) (constant 1))
 
-abbrev stepsOf : List ℕ × ℕ × ℕ × List ℤ → Stepped × List ℤ
-stepsOf (file, vars, at, state) = (stepOf (lowsOf file vars) (highsOf file vars) file at state, successorOf file at state)
+    -- variables in 0..2 and in -1..1, and a step with these updates
+    negative : List ℕ → List ℕ
+    negative updates = pair ++ transition 0 ++ yes ++ updates
+
+    add : List ℕ
+    add = assign 1 (sum (variable 1) (constant 1))
+
+abbrev stepsOf : Question → Stepped × List (List ℤ)
+stepsOf (file, vars, at, state) =
+    (stepOf (lowsOf file vars) (highsOf file vars) file at state, successorsOf (lowsOf file vars) (highsOf file vars) file at state)
 
 steps-hold : Answers stepsOf steps
 unfolding flatten Bytes.signed16 Record.kindIs Kind.within Kind.signatureOf Walk.spans Walk.span Table.tabulate Table.tableOf Interval.combine
     Expression.firstOperand Expression.secondOperand Expression.compareOf
     Expression.numberBy Expression.truthBy Expression.number Expression.truth Range.endsOf
-    Expression.behind Transition.assignmentAt Transition.assignmentsFrom Transition.inRangeOf Transition.allInRange Transition.assigned
-    Step.guardOf Transition.assignmentList Step.enabledOf Step.successorOf Step.stepOf
+    Radix.at Radix.offsetOf Number.sizeOf Number.countOf Number.stateOf Number.statesBetween
+    Expression.behind Section.isUpdate Transition.assignmentAt Transition.pickAt Transition.updateAt Transition.updatesFrom
+    Transition.inRangeOf Transition.allInRange Transition.updated
+    Step.guardOf Transition.updateList Step.enabledOf Step.lowestOf Step.highestOf Step.successorsOf Step.stepOf
 steps-hold = answers stepsOf steps refl

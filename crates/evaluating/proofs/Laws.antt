@@ -2,3 +2,4 @@
 pub mod Transition
 pub mod Readable
 pub mod Step
+pub mod Picks

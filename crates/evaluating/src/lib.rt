@@ -1,40 +1,46 @@
-// What a transition does at a state. A transition stands at a record; its guard follows, then its assignments.
+// What a transition does at a state. A transition stands at a record; its guard follows, then its updates.
 use expressions::number_at;
 use expressions::truth_at;
 use integers::state::between;
 use integers::state::element;
 use records::byte_at;
 use records::kind_is;
+use records::wide_value_at;
+use sections::is_update;
 ghost use mathlib.Core.Path.{_≡_};
 ghost use mathlib.Core.Bool.{true};
-ghost use Prim.Native.Nat.{_+_, _/_, _<_};
+ghost use Prim.Native.Nat.{_+_, _*_, _/_, _<_, _≤_};
 ghost use lib.ListN.{length, set};
 ghost use Rattle.records.specs.Kind.{number as numberSort};
 ghost use Rattle.expressions.specs.Expression.{partAt};
 ghost use Rattle.expressions.specs.Spans.{Spans};
 ghost use Rattle.expressions.specs.Fits.{Fits};
-ghost use Rattle.evaluating.specs.Transition.{assignmentAt, assignmentsFrom, inRangeOf};
-ghost use Rattle.evaluating.specs.Fits.{AssignmentsFit, TransitionFits};
-ghost use Rattle.evaluating.specs.Step.{assignOf, stepOf};
+ghost use Rattle.evaluating.specs.Transition.{assignmentAt, pickAt, updateAt, updatesFrom, inRangeOf};
+ghost use Rattle.evaluating.specs.Fits.{UpdateFits, UpdatesFit, TransitionFits};
+ghost use Rattle.evaluating.specs.Step.{updatedBy, stepOf};
 
-// A variable, the value that it is assigned, and the record behind the assignment.
-pub struct Assignment {
+// A variable, the lowest and the highest of the values that it may be given, and the record behind the update. An assignment gives it one value.
+pub struct Update {
     pub variable: usize,
-    pub value: i64,
+    pub low: i64,
+    pub high: i64,
     pub end: usize,
 }
 
-// Whether all values lie in range, and then the state with those values, else the state as it was.
-pub struct Assigned {
+// Whether all values lie in range, and then the ends between which the variables' values lie, else the state as it was for both.
+pub struct Updated {
     pub fits: bool,
-    pub next: [i16; 12],
+    pub low: [i16; 12],
+    pub high: [i16; 12],
 }
 
-// A transition at a state: whether its guard is true, whether it is enabled, and then its successor, else the state as it was.
+// A transition at a state: whether its guard is true, whether it is enabled, and then the ends between which its successors lie, else the state as it was
+// for both.
 pub struct Stepped {
     pub guard: bool,
     pub enabled: bool,
-    pub next: [i16; 12],
+    pub low: [i16; 12],
+    pub high: [i16; 12],
 }
 
 // Whether x lies in the range of variable i.
@@ -58,8 +64,24 @@ fn with(low: [i16; 12], high: [i16; 12], state: [i16; 12], i: usize, x: i64) -> 
     integers::state::assign(state, i, x, l, h)
 }
 
+// The pick at record `at`.
+fn pick_at(file: &[u8], at: usize) -> Update
+    requires { ⌜ 8 * at + 8 ≤ length (now file) ⌝ }
+    ensures { λ r. ⌜ r ≡ pickAt (now (file .entry)) at ⌝ }
+{
+    let variable = byte_at(file, 8 * at + 1) as usize;
+    let low = wide_value_at(file, 8 * at + 2);
+    let high = wide_value_at(file, 8 * at + 4);
+    Update {
+        variable,
+        low,
+        high,
+        end: at + 1,
+    }
+}
+
 // The assignment at record `at`, worked out from the state.
-fn assignment_at(file: &[u8], spans: &[u16; 4096], at: usize, state: [i16; 12]) -> Assignment
+fn assignment_at(file: &[u8], spans: &[u16; 4096], at: usize, state: [i16; 12]) -> Update
     requires fits { ⌜ Fits 16 numberSort (partAt (now file) (at + 1)) state ⌝ }
     requires spans { ⌜ Spans (now file) (now spans) ⌝ }
     ensures { λ r. ⌜ r ≡ assignmentAt (now (file .entry)) at state ⌝ }
@@ -67,48 +89,81 @@ fn assignment_at(file: &[u8], spans: &[u16; 4096], at: usize, state: [i16; 12]) 
     let variable = byte_at(file, 8 * at + 1) as usize;
     let from = at + 1;
     let value = number_at(&file[8 * from..], spans, from, state, 16);
-    Assignment {
+    Update {
         variable,
-        value,
+        low: value,
+        high: value,
         end: from + spans[from] as usize,
     }
 }
 
-// The assignments from record `first` on, each worked out from the state before any is made.
-fn assign(
+// The update at record `at`.
+fn update_at(file: &[u8], spans: &[u16; 4096], at: usize, state: [i16; 12]) -> Update
+    requires fits { ⌜ UpdateFits (now file) at state ⌝ }
+    requires spans { ⌜ Spans (now file) (now spans) ⌝ }
+    ensures { λ r. ⌜ r ≡ updateAt (now (file .entry)) at state ⌝ }
+{
+    if kind_is(file, 0x08, at) {
+        return pick_at(file, at);
+    }
+    assignment_at(file, spans, at, state)
+}
+
+// The updates from record `first` on, each worked out from the state before any is made.
+fn updates(
     file: &[u8],
     spans: &[u16; 4096],
     first: usize,
     low: [i16; 12],
     high: [i16; 12],
     state: [i16; 12],
-) -> Assigned
+) -> Updated
     requires spans { ⌜ Spans (now file) (now spans) ⌝ }
-    requires fits { ⌜ AssignmentsFit (now file) (length (now file) / 8) first state ⌝ }
-    ensures { λ r. ⌜ r ≡ assignOf low high (assignmentsFrom (now (file .entry)) (length (now (file .entry)) / 8) first state) state ⌝ }
+    requires fits { ⌜ UpdatesFit (now file) (length (now file) / 8) first state ⌝ }
+    ensures { λ r. ⌜ r ≡ updatedBy low high (updatesFrom (now (file .entry)) (length (now (file .entry)) / 8) first state) state ⌝ }
 {
-    let mut next = state;
+    let mut lowest = state;
+    let mut highest = state;
     let mut at = first;
     let mut left = file.len() / 8;
     while 0 < left {
-        if !kind_is(file, 0x04, at) {
-            return Assigned { fits: true, next };
-        }
-        let a = assignment_at(file, spans, at, state);
-        let i = a.variable;
-        let x = a.value;
-        if !in_range(low, high, i, x) {
-            return Assigned {
-                fits: false,
-                next: state,
+        if !is_update(file, at) {
+            return Updated {
+                fits: true,
+                low: lowest,
+                high: highest,
             };
         }
-        let changed = with(low, high, next, i, x);
-        next = changed;
-        at = a.end;
+        let u = update_at(file, spans, at, state);
+        let i = u.variable;
+        let l = u.low;
+        let h = u.high;
+        if !in_range(low, high, i, l) {
+            return Updated {
+                fits: false,
+                low: state,
+                high: state,
+            };
+        }
+        if !in_range(low, high, i, h) {
+            return Updated {
+                fits: false,
+                low: state,
+                high: state,
+            };
+        }
+        let lower = with(low, high, lowest, i, l);
+        let upper = with(low, high, highest, i, h);
+        lowest = lower;
+        highest = upper;
+        at = u.end;
         left -= 1;
     }
-    Assigned { fits: true, next }
+    Updated {
+        fits: true,
+        low: lowest,
+        high: highest,
+    }
 }
 
 // The transition at record `at`.
@@ -129,14 +184,17 @@ pub fn step(
         return Stepped {
             guard: false,
             enabled: false,
-            next: state,
+            low: state,
+            high: state,
         };
     }
-    let found = assign(file, spans, from + spans[from] as usize, low, high, state);
-    let next = found.next;
+    let found = updates(file, spans, from + spans[from] as usize, low, high, state);
+    let lowest = found.low;
+    let highest = found.high;
     Stepped {
         guard: true,
         enabled: found.fits,
-        next,
+        low: lowest,
+        high: highest,
     }
 }

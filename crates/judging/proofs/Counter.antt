@@ -1,6 +1,7 @@
 -- The files B, D and H of C16.1 as one counter.
 -- Assumes nothing.
 use mathlib.Core.Path.{_≡_, refl}
+use mathlib.Core.Logic.{inl}
 use mathlib.Core.Bool.{not}
 use mathlib.Core.List.{List, flatten}
 use Prim.Native.Nat.{ℕ, _≤_}
@@ -41,12 +42,12 @@ gH = diagramOf h oH
 
 pub B-counts : Counter b gB
 unfolding computing
-B-counts = record { states = state; transitions = refl; zero-on = (tt, refl); one-on = (tt, refl); two-off = tt }
+B-counts = record { states = state; transitions = refl; zero-on = (tt, inl refl); one-on = (tt, inl refl); two-off = tt }
 
 pub D-counts : Counter d gD
 unfolding computing
-D-counts = record { states = state; transitions = refl; zero-on = (tt, refl); one-on = (tt, refl); two-off = tt }
+D-counts = record { states = state; transitions = refl; zero-on = (tt, inl refl); one-on = (tt, inl refl); two-off = tt }
 
 pub H-counts : Counter h gH
 unfolding computing
-H-counts = record { states = state; transitions = refl; zero-on = (tt, refl); one-on = (tt, refl); two-off = tt }
+H-counts = record { states = state; transitions = refl; zero-on = (tt, inl refl); one-on = (tt, inl refl); two-off = tt }

@@ -8,7 +8,7 @@ use Prim.Native.Nat.{ℕ}
 use lib.ListN.{length, take, drop, set, replicate}
 use Rattle.shapes.specs.declared.Reading.{Reading}
 use Rattle.diagrams.specs.Diagram.{foundOf, diagramOf}
-use Rattle.diagrams.proofs.Files.{agree, bytes, range, start, transition, assignment, property, node, single, double}
+use Rattle.diagrams.proofs.Files.{agree, bytes, range, start, transition, assignment, pick, property, node, single, double}
 use Rattle.diagrams.proofs.Files.{constant, variable, plain, true, is, A, B, C, D, E, F, G, H, I, J}
 use Rattle.conditions.specs.Condition.{conditionsOf}
 use Rattle.verdicts.specs.Verdict
@@ -153,8 +153,54 @@ starts =
     (starting beyond G, 0x0affff0002000000, 0, 0) ∷
     []
 
+-- C1.16: one of the files A to H with other updates of its step
+abbrev updating : List (List ℕ) → List (List ℕ) → List (List ℕ)
+updating updates file = take 9 file ++ updates ++ drop 13 file
+
+-- an invariance v ≤ 2 by this node, its start v = 1, its step a pick while v is less than 2
+abbrev kept : ℕ → ℕ → List (List ℕ) → List (List ℕ)
+kept low high truth = updating (pick 0 low high ∷ []) (starting (is 0 1) (take 18 A ++ truth))
+
+-- D with another way out of node 2
+abbrev D′ : List (List ℕ)
+D′ = D ++ (double 0 2 0 ∷ [])
+
+-- by the nodes v ≤ 0 and 1 ≤ v, with these edges
+abbrev between : List (List ℕ) → List (List ℕ)
+between edges = take 18 A ++ (plain 0x29 ∷ variable 0 ∷ constant 0 ∷ node ∷ plain 0x29 ∷ constant 1 ∷ variable 0 ∷ edges)
+
+-- J with x one more and y picked
+abbrev beside : List (List ℕ)
+beside = take 12 J ++ (assignment 0 ∷ plain 0x12 ∷ variable 0 ∷ constant 1 ∷ pick 1 0 1 ∷ drop 16 J)
+
+abbrev picks : List Row
+picks =
+    -- C8.11: every value of the pick keeps B's node; A's is left by the last one, or by the only one; by none of 0..1; without an update it is kept
+    (updating (pick 0 0 2 ∷ []) B, 0x00ffff0004000000, 0, 12) ∷
+    (updating (pick 0 0 2 ∷ []) A, 0x1100000003000000, 0, 10) ∷
+    (updating (pick 0 2 2 ∷ []) A, 0x1100000003000000, 0, 10) ∷
+    (updating (pick 0 0 1 ∷ []) A, 0x00ffff0004000000, 0, 12) ∷
+    (updating [] A, 0x00ffff0004000000, 0, 12) ∷
+    -- left by the first one; by one between
+    (kept 0 2 (plain 0x29 ∷ constant 1 ∷ variable 0 ∷ []), 0x1100000003000000, 0x0100000000000000, 11) ∷
+    (kept 1 2 (plain 0x29 ∷ constant 1 ∷ variable 0 ∷ []), 0x00ffff0004000000, 0, 12) ∷
+    (updating (pick 0 0 2 ∷ []) (take 18 A ++ (plain 0x22 ∷ is 0 1)), 0x1100000003000000, 0, 10) ∷
+    -- successors satisfy different targets, where there are edges to both
+    (updating (pick 0 0 2 ∷ []) (between (single 0 0 1 ∷ single 0 1 0 ∷ [])), 0x00ffff0007000000, 0, 21) ∷
+    (updating (pick 0 0 2 ∷ []) (between (single 0 1 0 ∷ [])), 0x1100000004000000, 0, 13) ∷
+    -- C5.2, C8.10: a value out of range beside a pick
+    (beside, 0x1000000002000000, 0x0100000000000000, 11) ∷
+    -- C8.12: a double step that may pick another node than its target, or its own; one that may not
+    (updating (pick 0 1 2 ∷ []) D, 0x1101000003000000, 0x0100000000000000, 11) ∷
+    (updating (pick 0 2 2 ∷ []) D, 0x1102000006000000, 0, 19) ∷
+    (updating (pick 0 1 2 ∷ []) D′, 0x1101000003000000, 0x0100000000000000, 11) ∷
+    (updating (pick 0 2 2 ∷ []) D′, 0x00ffff0008000000, 0, 24) ∷
+    -- C10.22, C11.1: 64 × 65 combinations, before a start that no state satisfies
+    (range 0 63 ∷ range 0 64 ∷ start ∷ plain 0x21 ∷ transition 0 ∷ true ∷ pick 0 0 63 ∷ pick 1 0 64 ∷ staysInside, 0x16ffff0004000000, 0, 0) ∷
+    []
+
 abbrev table : List Row
-table = marked ++ broken ++ rings ++ starts
+table = marked ++ broken ++ rings ++ starts ++ picks
 
 -- ---- lists of conditions (C8.3 to C8.6)
 abbrev listed : List ℕ → Reading → List Condition
@@ -205,6 +251,10 @@ singles =
     ((starting beyond D, 99, 99), Single.Refused 20 0) ∷
     ((starting beyond G, 99, 99), Single.Refused 10 2) ∷
     ((starting (is 0 2) A, 0, 2), Single.Fails) ∷
+    -- C8.10, C8.11: a step with a pick: from 0 1 it may lead to 1 1; at 1 0 a value is out of range, so that it leads nowhere
+    ((beside, 3, 1), Single.Fails) ∷
+    ((beside, 3, 2), Single.Holds) ∷
+    ((beside, 2, 2), Single.Fails) ∷
     []
 
 -- ---- what antt computes

@@ -12,6 +12,7 @@ use Rattle.shapes.specs.Property
 use Rattle.shapes.specs.Edge as Shape
 use Rattle.states.specs.Number
 use Rattle.reading.specs.States
+use Rattle.reading.specs.Picks
 use Rattle.intervals.specs.Interval
 use Rattle.reading.specs.Edge
 use Rattle.reading.specs.Read
@@ -21,11 +22,11 @@ use Rattle.records.proofs.Computing.{walking}
 unfoldable pub reading : Unit {0}
 unfolding walking Ends.minZ Ends.maxZ Ends.around Ends.overEnds Ends.inBounds Radix.offsetOf
     Record.kindIs Record.sameBytes
-    Section.variableFields Section.transitionFields Section.assignmentFields Section.propertyFields Section.edgeFields Section.itemsOf
-    Section.variablesOf Section.assignmentsOf Section.transitionOf Section.transitionsOf Section.expressionsOf Section.phasesOr
+    Section.variableFields Section.transitionFields Section.assignmentFields Section.pickFields Section.propertyFields Section.edgeFields Section.itemsOf
+    Section.variablesOf Section.isUpdate Section.updateFields Section.updateOf Section.updatesOf Section.transitionOf Section.transitionsOf Section.expressionsOf Section.phasesOr
     Section.nodesOf Section.repeatedOf Section.edgesOf
     Outline.nodesParsed Outline.propertyParsed Outline.transitionsParsed Outline.startParsed Outline.parsedOf
-    Search.any Walk.refuseFirst Number.sizeOf States.sizeAt States.statesOf
+    Search.any Walk.refuseFirst Number.sizeOf States.sizeAt States.statesOf Picks.pastRecord Picks.picksFrom Picks.picksOf
     Quotient.quotient Quotient.remainder Interval.divide Interval.dividedBy
     Interval.leafOf Interval.combine Interval.joinOf Interval.ownOf Interval.byOperands Interval.analysisOf Interval.analysedFrom Interval.intervalsOf
     Property.claimOf Property.propertyOf Section.phasesFit Section.edgeAt

@@ -8,7 +8,7 @@ use lib.ListN.{take, drop, set, replicate}
 use Rattle.shapes.specs.declared.Reading.{Reading}
 use Rattle.reading.specs.Read.{readOf}
 use Rattle.reading.proofs.Computing.{reading}
-use Rattle.reading.proofs.Files.{bytes, given, entry, range, start, transition, assignment, property, node, nodes, single, double}
+use Rattle.reading.proofs.Files.{bytes, given, entry, range, start, transition, assignment, pick, property, node, nodes, single, double}
 use Rattle.reading.proofs.Files.{constant, variable, plain, true, not, product, A, B, C, D, E, F, G, H, I, J, agree}
 
 -- ---- small files
@@ -169,7 +169,7 @@ choices =
     (D ++ (single 0 3 0 ∷ []), refused 4 32) ∷
     (D ++ (single 1 2 0 ∷ []), refused 4 32) ∷
     (D ++ (node ∷ true ∷ []), refused 3 32) ∷
-    -- C10.6, C1.14: a variable assigned twice is 6 at the second assignment, and so is an edge that differs from one before it in d alone
+    -- C10.6, C1.14, C1.17: a variable assigned twice is 6 at the second assignment, and so is an edge that differs from one before it in d alone
     (take 13 A ++ drop 9 A, refused 6 13) ∷
     (D ++ (single 0 2 1 ∷ []), refused 6 32) ∷
     -- C3.5, C11.1: of a sum that goes out of bounds with both its operands the left operand is named; 8 comes before 9
@@ -189,8 +189,58 @@ choices =
     (D ++ (single 0 2 0 ∷ []), refused 9 32) ∷
     []
 
+-- C1.16, C10.22: variables in 0..63 and 0..64, start, guard, q and one node all true; the transition is record 4, its updates begin at record 6
+abbrev updating : List (List ℕ) → List (List ℕ)
+updating updates = range 0 63 ∷ range 0 64 ∷ start ∷ true ∷ transition 0 ∷ true ∷ updates ++ (property 1 0 ∷ true ∷ node ∷ true ∷ [])
+
+-- 64 times 64 combinations, and 64 times 65
+abbrev most : List (List ℕ)
+most = pick 0 0 63 ∷ pick 1 0 63 ∷ []
+
+abbrev tooMany : List (List ℕ)
+tooMany = pick 0 0 63 ∷ pick 1 0 64 ∷ []
+
+abbrev picks : List Row
+picks =
+    -- C1.16: a pick, several, of one value
+    (updating (pick 0 0 63 ∷ []), readable 2 4 1 7 9 1 11 0) ∷
+    (updating (pick 1 5 5 ∷ pick 0 1 2 ∷ []), readable 2 4 1 8 10 1 12 0) ∷
+    -- C1.8: an assignment behind a pick, and before one
+    (updating (pick 0 0 1 ∷ assignment 1 ∷ variable 0 ∷ []), readable 2 4 1 9 11 1 13 0) ∷
+    (updating (assignment 1 ∷ variable 0 ∷ pick 0 0 1 ∷ []), readable 2 4 1 9 11 1 13 0) ∷
+    -- C1.16, C10.4: 2..1; below the range, and above it; d and byte 7; no such variable; so it is with an assignment's value (C10.3)
+    (updating (pick 0 2 1 ∷ []), refused 4 6) ∷
+    (updating (pick 0 0xffff 1 ∷ []), refused 4 6) ∷
+    (updating (pick 0 0 64 ∷ []), refused 4 6) ∷
+    (updating (entry 0x08 0 0 1 1 ∷ []), refused 4 6) ∷
+    (updating (bytes 0x0800000001000001 ∷ []), refused 4 6) ∷
+    (updating (pick 2 0 0 ∷ []), refused 4 6) ∷
+    (updating (assignment 0 ∷ pick 1 0 1 ∷ []), refused 3 7) ∷
+    -- C1.17, C10.6: a variable picked twice; picked and assigned, assigned and picked; 4 comes before 6 (C11.2)
+    (updating (pick 0 0 1 ∷ pick 0 0 1 ∷ []), refused 6 7) ∷
+    (updating (pick 0 0 1 ∷ assignment 0 ∷ constant 1 ∷ []), refused 6 7) ∷
+    (updating (assignment 0 ∷ constant 1 ∷ pick 0 0 1 ∷ []), refused 6 8) ∷
+    (updating (pick 0 0 1 ∷ pick 0 1 0 ∷ []), refused 4 7) ∷
+    -- C10.3: elsewhere: among the variables, before the first transition, behind the nodes
+    (take 2 (updating []) ++ (pick 0 0 1 ∷ drop 2 (updating [])), refused 3 2) ∷
+    (take 4 (updating []) ++ (pick 0 0 1 ∷ drop 4 (updating [])), refused 3 4) ∷
+    (updating [] ++ (pick 0 0 1 ∷ []), refused 3 10) ∷
+    -- C10.22: 4,096 combinations pass, of each transition; of one that has more the record of kind 03 is named, of several such the first one's
+    (updating most, readable 2 4 1 8 10 1 12 0) ∷
+    (updating tooMany, refused 22 4) ∷
+    (updating (most ++ (transition 0 ∷ true ∷ most)), readable 2 4 2 12 14 1 16 0) ∷
+    (updating (most ++ (transition 0 ∷ true ∷ tooMany)), refused 22 8) ∷
+    (updating (tooMany ++ (transition 0 ∷ true ∷ tooMany)), refused 22 4) ∷
+    -- C11.1: behind 7, before 8 and before 9
+    (set (updating tooMany) 0 (range 0 32767), refused 7 1) ∷
+    (take 3 (updating most) ++ vanishes 1000 1001 ++ drop 4 (updating most), refused 8 4) ∷
+    (take 3 (updating tooMany) ++ vanishes 1000 1001 ++ drop 4 (updating tooMany), refused 22 8) ∷
+    (updating most ++ (double 0 0 0 ∷ []), refused 9 12) ∷
+    (updating tooMany ++ (double 0 0 0 ∷ []), refused 22 4) ∷
+    []
+
 abbrev table : List Row
-table = marked ++ divisions ++ choices
+table = marked ++ divisions ++ choices ++ picks
 
 -- ---- the theorem
 -- what reading answers, row by row, is the table's other column

@@ -3,7 +3,7 @@
 use mathlib.Core.List.{List, [], _∷_, _++_, map}
 use Prim.Native.Nat.{ℕ}
 use lib.ListN.{take, drop, set}
-pub use Rattle.records.proofs.Files.{agree, bytes, given, entry, range, start, transition, assignment, property, node, single, double}
+pub use Rattle.records.proofs.Files.{agree, bytes, given, entry, range, start, transition, assignment, pick, property, node, single, double}
 pub use Rattle.records.proofs.Files.{constant, variable, plain, true, not, is, product}
 
 -- ---- the files

@@ -4,6 +4,7 @@ pub mod Outside
 pub mod Stage
 pub mod States
 pub mod Scan
+pub mod Picks
 pub mod Edge
 pub mod Refusal
 pub mod Readable

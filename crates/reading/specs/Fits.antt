@@ -1,4 +1,4 @@
--- What the code asks of a file's variables, of its outline and of an edge's record.
+-- What the code asks of a file's outline and of an edge's record.
 use mathlib.Core.Path.{_≡_}
 use Prim.Native.Nat.{ℕ, _+_, _*_, _/_, _<_, _≤_}
 use mathlib.Core.List.{List}
@@ -6,18 +6,11 @@ use lib.ListN.{length}
 use Rattle.shapes.specs.declared.Outline.{Outline}
 use Rattle.sections.specs.Section.{edgeAt, transitionOf}
 use Rattle.records.specs.Place.{placesOf}
-use lib.Signed.{_≤ℤ_}
-use Rattle.records.specs.Record.{valueB, valueC}
-
--- the records of the variables are there, and no range is empty
-pub record VariablesFit (file : List ℕ) (vars : ℕ) : Type 0 where
-  pub here : 8 * vars ≤ length file
-  pub ordered : (v : ℕ) → v < vars → valueB file v ≤ℤ valueC file v
 
 -- the outline stays within the file, its counts within their limits, and its edges name its transitions
 pub record OutlineFits (file : List ℕ) (o : Outline) : Type 0 where
   pub vars-most : o .vars ≤ 12
-  pub ranges : VariablesFit file (o .vars)
+  pub variables-here : 8 * o .vars ≤ length file
   pub transition-here : o .transition ≤ length file / 8
   pub transitions-most : o .transitions ≤ 32
   pub property-here : 8 * o .property + 8 ≤ length file

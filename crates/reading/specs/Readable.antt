@@ -7,11 +7,12 @@ use Rattle.integers.specs.declared.Interval.{Interval}
 use Rattle.integers.specs.Interval.{inBounds}
 use Rattle.records.specs.declared.walk.Walked.{Walked}
 use Rattle.shapes.specs.declared.Outline.{Outline}
-use Rattle.records.specs.Record.{kindAt, fieldA, kindIs}
+use lib.Signed.{_≤ℤ_}
+use Rattle.records.specs.Record.{kindAt, fieldA, valueB, valueC, kindIs}
 use Rattle.records.specs.Kind.{number, truth, signatureAt}
 use Rattle.records.specs.Walk.{inSequence, walkOf, truthOf}
 use Rattle.shapes.specs.declared.Edge.{Edge}
-use Rattle.sections.specs.Section.{propertyAt, edgeAt, transitionOf, nodeOf}
+use Rattle.sections.specs.Section.{propertyAt, edgeAt, isUpdate, transitionOf, nodeOf}
 use Rattle.intervals.specs.declared.Analysis.{Analysis}
 use Rattle.intervals.specs.Interval.{leafOf, joinOf, analysisOf}
 use Rattle.reading.specs.Edge.{justOf}
@@ -28,13 +29,19 @@ abbrev pub Apart : ℕ → List ℕ → Type 0
 Apart a [] = Unit {0}
 Apart a (v ∷ vs) = (a ≡ v → ⊥) × Apart a vs
 
--- the assignments from record `at` on, to the variables listed, each assigned once; the next record is none
-pub data Assignments (file : List ℕ) (vars end : ℕ) : ℕ → List ℕ → Type 0 where
-  none : kindIs file 0x04 end ≡ false → Assignments file vars end end []
-  more : {at mid : ℕ} {i : Interval} {vs : List ℕ} → kindIs file 0x04 at ≡ true → fieldA file at < vars → Expression file vars 16 number (at + 1) mid i
-      → Assignments file vars end mid vs → Apart (fieldA file at) vs → Assignments file vars end at (fieldA file at ∷ vs)
+-- the update at record `at`, which ends before record `end`: an assignment and its value, or a pick, its values in order and in the range of its variable
+pub data Update (file : List ℕ) (vars at : ℕ) : ℕ → Type 0 where
+  assigns : {end : ℕ} {i : Interval} → kindIs file 0x08 at ≡ false → Expression file vars 16 number (at + 1) end i → Update file vars at end
+  picks : kindIs file 0x08 at ≡ true → valueB file at ≤ℤ valueC file at → valueB file (fieldA file at) ≤ℤ valueB file at
+      → valueC file at ≤ℤ valueC file (fieldA file at) → Update file vars at (at + 1)
 
--- transition t: it stands at `place`, behind t others; then its guard, to `behind`; then its assignments
+-- the updates from record `at` on, of the variables listed, each set once; the next record is none
+pub data Updates (file : List ℕ) (vars end : ℕ) : ℕ → List ℕ → Type 0 where
+  none : isUpdate file end ≡ false → Updates file vars end end []
+  more : {at mid : ℕ} {vs : List ℕ} → isUpdate file at ≡ true → fieldA file at < vars → Update file vars at mid → Updates file vars end mid vs
+      → Apart (fieldA file at) vs → Updates file vars end at (fieldA file at ∷ vs)
+
+-- transition t: it stands at `place`, behind t others; then its guard, to `behind`; then its updates
 pub record Transition (file : List ℕ) (o : Outline) (t : ℕ) : Type 0 where
   pub place : ℕ
   pub behind : ℕ
@@ -44,8 +51,8 @@ pub record Transition (file : List ℕ) (o : Outline) (t : ℕ) : Type 0 where
   pub just-or-not : fieldA file place ≤ 1
   pub interval : Interval
   pub guard : Expression file (o .vars) 16 truth (place + 1) behind interval
-  pub assigned : List ℕ
-  pub assignments : Assignments file (o .vars) end behind assigned
+  pub sets : List ℕ
+  pub updates : Updates file (o .vars) end behind sets
 
 -- ---- the property's expressions and the nodes
 -- expression i of the property: it stands at `place`, behind i others

@@ -7,7 +7,7 @@ use Rattle.records.specs.declared.walk.Walked.{Walked}
 use Rattle.records.specs.Record.{valueB, valueC}
 use Rattle.states.specs.Number.{sizeOf}
 
--- for C10.7: how many values the variable at record `at` has
+-- for C10.7, C10.22: how many values the variable or pick at record `at` has
 unfoldable pub sizeAt : List ℕ → ℕ → ℕ
 sizeAt file at = sizeOf (valueB file at) (valueC file at)
 

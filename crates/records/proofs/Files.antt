@@ -37,6 +37,9 @@ transition a = entry 0x03 a 0 0 0
 abbrev pub assignment : ℕ → List ℕ
 assignment a = entry 0x04 a 0 0 0
 
+abbrev pub pick : ℕ → ℕ → ℕ → List ℕ
+pick a b c = entry 0x08 a b c 0
+
 abbrev pub property : ℕ → ℕ → List ℕ
 property a b = entry 0x05 a b 0 0
 

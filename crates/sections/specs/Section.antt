@@ -1,6 +1,6 @@
 -- The sections of a file: at each record refusals 3 to 6 in this order, in expressions 19 too (C11.2).
 use Prim.Native.Nat.{ℕ, zero, suc, _+_, _*_, _-_}
-use mathlib.Core.Bool.{Bool, cond, _&&_}
+use mathlib.Core.Bool.{Bool, cond, _&&_, _||_}
 use mathlib.Core.List.{List}
 use lib.ListN.{getD, set, replicate}
 use lib.Dec.{ltb, leb, eqb}
@@ -32,6 +32,12 @@ transitionFields file at = leb (fieldA file at) 1 && zerosOf file (8 * at + 2) 6
 -- C1.9, C1.15: an assignment's
 unfoldable pub assignmentFields : List ℕ → ℕ → ℕ → Bool
 assignmentFields file vars at = ltb (fieldA file at) vars && zerosOf file (8 * at + 2) 6
+
+-- C1.15, C1.16: a pick's, b at most c, both in the range of its variable, whose record is that of the variable's number
+unfoldable pub pickFields : List ℕ → ℕ → ℕ → Bool
+pickFields file vars at =
+    ltb (fieldA file at) vars && zerosOf file (8 * at + 6) 2 && leZ (valueB file at) (valueC file at)
+    && leZ (valueB file (fieldA file at)) (valueB file at) && leZ (valueC file at) (valueC file (fieldA file at))
 
 -- for C1.10: what a property claims, and the row of that
 abbrev pub claimAt : List ℕ → ℕ → Claim
@@ -72,22 +78,35 @@ itemsOf file kind fields item (suc left) n at =
 unfoldable pub variablesOf : List ℕ → Section
 variablesOf file = itemsOf file 0x01 (variableFields file) (λ at. Walked.End (at + 1)) 12 0 0
 
--- C1.9, C10.6: of a transition. `assigned` has 1 at each variable that was assigned; after 12 of them the next one repeats one
-unfoldable pub assignmentsOf : List ℕ → ℕ → ℕ → List ℕ → ℕ → Walked
-assignmentsOf file vars zero assigned at =
-    cond (kindIs file 0x04 at) (cond (assignmentFields file vars at) (Walked.Refused 6 at) (Walked.Refused 4 at)) (Walked.End at)
-assignmentsOf file vars (suc left) assigned at =
-    cond (kindIs file 0x04 at)
-    (cond (assignmentFields file vars at)
-    (cond (eqb (getD assigned (fieldA file at) 0) 0)
-    (andThen Walked.Refused (walkOf file vars 16 number (at + 1)) (assignmentsOf file vars left (set assigned (fieldA file at) 1)))
+-- ---- the updates of a transition: its assignments and picks
+-- C1.8: one of them stands at `at`
+unfoldable pub isUpdate : List ℕ → ℕ → Bool
+isUpdate file at = kindIs file 0x04 at || kindIs file 0x08 at
+
+-- C1.9, C1.16: its fields
+unfoldable pub updateFields : List ℕ → ℕ → ℕ → Bool
+updateFields file vars at = cond (kindIs file 0x08 at) (pickFields file vars at) (assignmentFields file vars at)
+
+-- C1.9, C1.16: behind an assignment's record stands its value, behind a pick's nothing
+unfoldable pub updateOf : List ℕ → ℕ → ℕ → Walked
+updateOf file vars at = cond (kindIs file 0x08 at) (Walked.End (at + 1)) (walkOf file vars 16 number (at + 1))
+
+-- C1.8, C1.17, C10.6: all of them. `marks` has 1 at each variable that was set; after 12 of them the next one repeats one
+unfoldable pub updatesOf : List ℕ → ℕ → ℕ → List ℕ → ℕ → Walked
+updatesOf file vars zero marks at =
+    cond (isUpdate file at) (cond (updateFields file vars at) (Walked.Refused 6 at) (Walked.Refused 4 at)) (Walked.End at)
+updatesOf file vars (suc left) marks at =
+    cond (isUpdate file at)
+    (cond (updateFields file vars at)
+    (cond (eqb (getD marks (fieldA file at) 0) 0)
+    (andThen Walked.Refused (updateOf file vars at) (updatesOf file vars left (set marks (fieldA file at) 1)))
     (Walked.Refused 6 at))
     (Walked.Refused 4 at))
     (Walked.End at)
 
--- C1.8: guard, then assignments
+-- C1.8: guard, then updates
 unfoldable pub transitionOf : List ℕ → ℕ → ℕ → Walked
-transitionOf file vars at = andThen Walked.Refused (walkOf file vars 16 truth (at + 1)) (assignmentsOf file vars 12 (replicate 12 0))
+transitionOf file vars at = andThen Walked.Refused (walkOf file vars 16 truth (at + 1)) (updatesOf file vars 12 (replicate 12 0))
 
 -- C1.8: up to 32
 unfoldable pub transitionsOf : List ℕ → ℕ → ℕ → Section

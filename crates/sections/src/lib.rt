@@ -18,8 +18,8 @@ ghost use mathlib.Core.Path.{_≡_};
 ghost use Prim.Native.Nat.{ℕ, _+_, _*_, _/_, _≤_, _<_};
 ghost use lib.ListN.{length, replicate};
 ghost use Rattle.records.specs.Place.{placesOf};
-ghost use Rattle.sections.specs.Section.{variableFields, transitionFields, assignmentFields, propertyFields, edgeFields};
-ghost use Rattle.sections.specs.Section.{variablesOf, assignmentsOf, transitionOf, transitionsOf};
+ghost use Rattle.sections.specs.Section.{variableFields, transitionFields, assignmentFields, pickFields, propertyFields, edgeFields};
+ghost use Rattle.sections.specs.Section.{variablesOf, isUpdate, updateFields, updateOf, updatesOf, transitionOf, transitionsOf};
 ghost use Rattle.sections.specs.Section.{claimAt, phasesFit, phasesOr, expressionsOf, edgeAt, nodeOf, nodesOf, repeatedOf, edgeOf, edgesOf};
 ghost use Rattle.sections.specs.Item.{kindOf, fieldsOf, itemOf, sectionOf, Walkable};
 
@@ -75,6 +75,30 @@ fn assignment_fields(file: &[u8], vars: usize, at: usize) -> bool
         return zeros(file, base + 2, 6);
     }
     false
+}
+
+// Whether a pick's record has only a, one of the variables, b and c, b ≤ c and both in that variable's range.
+fn pick_fields(file: &[u8], vars: usize, at: usize) -> bool
+    requires { ⌜ 8 * at + 8 ≤ length (now file) ⌝ }
+    ensures { λ r. ⌜ r ≡ pickFields (now (file .entry)) vars at ⌝ }
+{
+    let base = 8 * at;
+    let a = file[base + 1] as usize;
+    if vars <= a {
+        return false;
+    }
+    if !zeros(file, base + 6, 2) {
+        return false;
+    }
+    let low = value_at(file, base + 2);
+    let high = value_at(file, base + 4);
+    if high < low {
+        return false;
+    }
+    if low < value_at(file, 8 * a + 2) {
+        return false;
+    }
+    high <= value_at(file, 8 * a + 4)
 }
 
 // What the property at record `at` claims.
@@ -147,27 +171,59 @@ fn edge_fields(file: &[u8], transitions: usize, nodes: usize, at: usize) -> bool
     zeros(file, base + 7, 1)
 }
 
-// A transition's assignments, from record `at` on.
-fn assignments(file: &[u8], vars: usize, at: usize) -> Walked
-    requires { ⌜ vars ≤ 12 ⌝ }
-    ensures { λ r. ⌜ r ≡ assignmentsOf (now (file .entry)) vars 12 (replicate 12 0) at ⌝ }
+// Whether an assignment or a pick, an update, stands at record `at`.
+pub fn is_update(file: &[u8], at: usize) -> bool
+    ensures { λ r. ⌜ r ≡ isUpdate (now (file .entry)) at ⌝ }
 {
-    let mut assigned = [0u8; 12];
+    if kind_is(file, 0x04, at) {
+        return true;
+    }
+    kind_is(file, 0x08, at)
+}
+
+// Whether an update's record has only fields and values allowed.
+fn update_fields(file: &[u8], vars: usize, at: usize) -> bool
+    requires { ⌜ 8 * at + 8 ≤ length (now file) ⌝ }
+    ensures { λ r. ⌜ r ≡ updateFields (now (file .entry)) vars at ⌝ }
+{
+    if kind_is(file, 0x08, at) {
+        return pick_fields(file, vars, at);
+    }
+    assignment_fields(file, vars, at)
+}
+
+// An update: an assignment's record and its value, or a pick's record alone.
+fn update(file: &[u8], vars: usize, at: usize) -> Walked
+    requires { ⌜ 8 * at + 8 ≤ length (now file) ⌝ }
+    ensures { λ r. ⌜ r ≡ updateOf (now (file .entry)) vars at ⌝ }
+{
+    if kind_is(file, 0x08, at) {
+        return Walked::End(at + 1);
+    }
+    walk(file, at + 1, NUMBER, vars, 16)
+}
+
+// A transition's updates, from record `at` on.
+fn updates(file: &[u8], vars: usize, at: usize) -> Walked
+    requires { ⌜ vars ≤ 12 ⌝ }
+    ensures { λ r. ⌜ r ≡ updatesOf (now (file .entry)) vars 12 (replicate 12 0) at ⌝ }
+{
+    let mut marks = [0u8; 12];
     let mut left: usize = 12;
     let mut next = at;
-    while kind_is(file, 0x04, next) {
-        if !assignment_fields(file, vars, next) {
+    while is_update(file, next) {
+        if !update_fields(file, vars, next) {
             return Walked::Refused(4, next);
         }
         if left == 0 {
             return Walked::Refused(6, next);
         }
         let a = file[8 * next + 1] as usize;
-        if assigned[a] != 0 {
+        if marks[a] != 0 {
             return Walked::Refused(6, next);
         }
-        assigned[a] = 1;
-        let value = walk(file, next + 1, NUMBER, vars, 16);
+        marks[a] = 1;
+        let value = update(file, vars, next);
         match value {
             Walked::End(end) => next = end,
             Walked::Refused(number, place) => return Walked::Refused(number, place),
@@ -177,14 +233,14 @@ fn assignments(file: &[u8], vars: usize, at: usize) -> Walked
     Walked::End(next)
 }
 
-// A transition behind its first record: its guard, then its assignments.
+// A transition behind its first record: its guard, then its updates.
 fn transition(file: &[u8], vars: usize, at: usize) -> Walked
     requires { ⌜ (vars ≤ 12) × (at ≤ length (now file)) ⌝ }
     ensures { λ r. ⌜ r ≡ transitionOf (now (file .entry)) vars at ⌝ }
 {
     let guard = walk(file, at + 1, TRUTH, vars, 16);
     match guard {
-        Walked::End(end) => assignments(file, vars, end),
+        Walked::End(end) => updates(file, vars, end),
         Walked::Refused(number, place) => Walked::Refused(number, place),
     }
 }

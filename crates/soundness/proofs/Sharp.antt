@@ -1,4 +1,5 @@
 mod Files
 mod System
 mod Claims
+mod Picks
 mod Computing

@@ -1,5 +1,4 @@
 -- The system of a readable file, with diagram g, and what the file claims of its runs.
-use mathlib.Core.Path.{_≡_}
 use mathlib.Core.List.{List}
 use Prim.Native.Nat.{ℕ, _-_}
 use lib.IntN.{ℤ}
@@ -8,11 +7,12 @@ use Rattle.diagrams.specs.declared.Diagram.{Diagram}
 use Rattle.diagrams.specs.Diagram.{State}
 use Rattle.diagrams.specs.Start.{Readable}
 use Rattle.diagrams.specs.Truth.{startHolds, nodeHolds, pHolds, qHolds}
-use Rattle.diagrams.specs.System.{justOf, guardHolds, valuesFit, nextState}
+use Rattle.diagrams.specs.System.{justOf, guardHolds, valuesFit, nextStates}
+use Rattle.truths.specs.Listed.{Member}
 use Rattle.runs.specs.Run.{System}
 use Rattle.runs.specs.Claim.{Invariance, WaitFor, Chain, InRange, Starts}
 
--- for C7.9: the file's states, start and transitions
+-- for C7.9: the file's states, start and transitions. A state is a successor if it is in the list (C6.2, C6.4)
 abbrev pub systemOf : List ℕ → Diagram → System
 systemOf file g =
     record {
@@ -23,7 +23,7 @@ systemOf file g =
       just = justOf file g;
       guard = guardHolds file g;
       fits = valuesFit file g;
-      Assigns = λ t s s′. s′ ≡ nextState file g t s;
+      Assigns = λ t s s′. Member s′ (nextStates file g t s);
     }
 
 -- C7.9, C8.2: by what the property claims; the m of a wait-for is its number of nodes less one (C1.11, C1.13). Another claim is never true

@@ -2,3 +2,4 @@
 pub mod State
 pub mod Number
 pub mod Order
+pub mod Between

@@ -2,6 +2,7 @@
 use mathlib.Core.List.{List, [], _∷_}
 use Prim.Native.Nat.{ℕ, _+_, _*_, _/_, _%_}
 use lib.IntN.{ℤ}
+use Rattle.truths.specs.Table.{tabulate}
 use Rattle.integers.specs.Radix.{at, offsetOf}
 
 -- C4.3: how many values a range has
@@ -26,3 +27,7 @@ numberOf [] highs state = 0
 numberOf (low ∷ lows) [] state = 0
 numberOf (low ∷ lows) (high ∷ highs) [] = 0
 numberOf (low ∷ lows) (high ∷ highs) (value ∷ state) = offsetOf low value * countOf lows highs + numberOf lows highs state
+
+-- C5.6: the states between these ends, by their numbers
+unfoldable pub statesBetween : List ℤ → List ℤ → List (List ℤ)
+statesBetween lows highs = tabulate (stateOf lows highs) (countOf lows highs) 0

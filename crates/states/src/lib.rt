@@ -7,7 +7,7 @@ ghost use lib.Signed.{_≤ℤ_};
 ghost use Rattle.states.specs.State.{Within};
 ghost use Rattle.states.specs.Ranges.{Ranges, Idle};
 ghost use Rattle.states.specs.Number.{sizeOf, countOf, stateOf, numberOf};
-ghost use Rattle.states.specs.Advance.{advanceOf};
+ghost use Rattle.states.specs.Advance.{lastOf, advanceOf};
 
 // How many values a range has.
 pub fn size(low: i16, high: i16) -> usize
@@ -92,4 +92,20 @@ pub fn advance(low: [i16; 12], high: [i16; 12], vars: usize, state: [i16; 12]) -
         next[i] = low[i];
     }
     next
+}
+
+// Whether a state is the last: each variable is at its high end.
+pub fn is_last(high: [i16; 12], state: [i16; 12]) -> bool
+    ensures { λ r. ⌜ r ≡ lastOf high state ⌝ }
+{
+    let mut i: usize = 0;
+    while i < 12 {
+        let v = state[i];
+        let h = high[i];
+        if v < h {
+            return false;
+        }
+        i += 1;
+    }
+    true
 }

@@ -1,4 +1,4 @@
-// Where a transition leads from a box of states. A transition stands at a record; its guard follows, then its assignments.
+// Where a transition leads from a box of states. A transition stands at a record; its guard follows, then its updates.
 use boxes::Box;
 use domains::extents::Extent;
 use domains::extents::at_most;
@@ -12,32 +12,34 @@ use integers::Interval;
 use integers::state::widen;
 use records::byte_at;
 use records::kind_is;
+use records::value_at;
+use sections::is_update;
 ghost use mathlib.Core.Path.{_≡_};
-ghost use Prim.Native.Nat.{_+_, _/_, _<_};
+ghost use Prim.Native.Nat.{_+_, _*_, _/_, _<_, _≤_};
 ghost use lib.ListN.{length, set};
 ghost use Rattle.integers.specs.Inside.{Bounded};
 ghost use Rattle.records.specs.Kind.{number as numberSort};
 ghost use Rattle.expressions.specs.Expression.{partAt};
 ghost use Rattle.expressions.specs.Spans.{Spans};
 ghost use Rattle.expressions.specs.Fits.{Fits};
-ghost use Rattle.evaluating.specs.Fits.{AssignmentsFit, TransitionFits};
+ghost use Rattle.evaluating.specs.Fits.{UpdateFits, UpdatesFit, TransitionFits};
 ghost use Rattle.boxes.specs.Box.{box};
-ghost use Rattle.successors.specs.Successor.{pointOf, rangeIn, cutIn, targetAt, targetsFrom, towardOf, reachedBy, start, moveOf};
+ghost use Rattle.successors.specs.Successor.{pointOf, rangeIn, cutIn, pickedAt, assignedAt, targetAt, targetsFrom, towardOf, reachedBy, start, moveOf};
 
-// A variable, what is known of the value that it is assigned, and the record behind the assignment.
+// A variable, what is known of the values that it may be given, and the record behind the update.
 pub struct Target {
     pub variable: usize,
     pub extent: Extent,
     pub end: usize,
 }
 
-// What is seen of the values assigned all lying in range, and a box that holds the states with those values where they do.
+// What is seen of the values given all lying in range, and a box that holds the states with those values where they do.
 pub struct Reached {
     pub range: Seen,
     pub to: Box,
 }
 
-// What is seen of a transition: of its guard, of the values that it assigns all lying in range, and a box that holds every successor.
+// What is seen of a transition: of its guard, of the values that it gives all lying in range, and a box that holds every successor.
 pub struct Moved {
     pub guard: Seen,
     pub range: Seen,
@@ -54,7 +56,7 @@ fn point(v: i16) -> Extent
     Extent { span, widest: 12 }
 }
 
-// Whether what is assigned lies in the range of variable i.
+// Whether what variable i is set to lies in its range.
 fn range_of(ranges: Box, i: usize, e: Extent) -> Seen
     requires variable { ⌜ i < 12 ⌝ }
     requires bounded { ⌜ Bounded (e .span) ⌝ }
@@ -91,7 +93,7 @@ fn with(b: Box, i: usize, l: i16, h: i16) -> Box
     Box { low, high }
 }
 
-// One assignment more.
+// One update more.
 fn toward(ranges: Box, m: Reached, t: Target) -> Reached
     requires variable { ⌜ t .variable < 12 ⌝ }
     requires bounded { ⌜ Bounded (t .extent .span) ⌝ }
@@ -109,11 +111,31 @@ fn toward(ranges: Box, m: Reached, t: Target) -> Reached
     Reached { range, to }
 }
 
+// The pick at record `at`.
+fn picked_at(file: &[u8], at: usize) -> Target
+    requires { ⌜ 8 * at + 8 ≤ length (now file) ⌝ }
+    ensures is { λ r. ⌜ r ≡ pickedAt (now (file .entry)) at ⌝ }
+    ensures bounded { λ r. ⌜ Bounded (r .extent .span) ⌝ }
+{
+    let variable = byte_at(file, 8 * at + 1) as usize;
+    let l = value_at(file, 8 * at + 2);
+    let h = value_at(file, 8 * at + 4);
+    let low = widen(l);
+    let high = widen(h);
+    let span = Interval { low, high };
+    let extent = Extent { span, widest: 12 };
+    Target {
+        variable,
+        extent,
+        end: at + 1,
+    }
+}
+
 // The assignment at record `at`.
-fn target_at(file: &[u8], spans: &[u16; 4096], at: usize, b: Box) -> Target
+fn assigned_at(file: &[u8], spans: &[u16; 4096], at: usize, b: Box) -> Target
     requires fits { ⌜ Fits 16 numberSort (partAt (now file) (at + 1)) (b .low) ⌝ }
     requires spans { ⌜ Spans (now file) (now spans) ⌝ }
-    ensures { λ r. ⌜ r ≡ targetAt (now (file .entry)) at b ⌝ }
+    ensures { λ r. ⌜ r ≡ assignedAt (now (file .entry)) at b ⌝ }
 {
     let variable = byte_at(file, 8 * at + 1) as usize;
     let from = at + 1;
@@ -125,10 +147,23 @@ fn target_at(file: &[u8], spans: &[u16; 4096], at: usize, b: Box) -> Target
     }
 }
 
-// The assignments from record `first` on, each by what is known of its value on the box b.
+// The update at record `at`.
+fn target_at(file: &[u8], spans: &[u16; 4096], at: usize, b: Box) -> Target
+    requires fits { ⌜ UpdateFits (now file) at (b .low) ⌝ }
+    requires spans { ⌜ Spans (now file) (now spans) ⌝ }
+    ensures is { λ r. ⌜ r ≡ targetAt (now (file .entry)) at b ⌝ }
+    ensures bounded { λ r. ⌜ Bounded (r .extent .span) ⌝ }
+{
+    if kind_is(file, 0x08, at) {
+        return picked_at(file, at);
+    }
+    assigned_at(file, spans, at, b)
+}
+
+// The updates from record `first` on, each by what is known of its values on the box b.
 fn reach(file: &[u8], spans: &[u16; 4096], first: usize, ranges: Box, b: Box) -> Reached
     requires spans { ⌜ Spans (now file) (now spans) ⌝ }
-    requires fits { ⌜ AssignmentsFit (now file) (length (now file) / 8) first (b .low) ⌝ }
+    requires fits { ⌜ UpdatesFit (now file) (length (now file) / 8) first (b .low) ⌝ }
     ensures { λ r. ⌜ r ≡ reachedBy ranges (targetsFrom (now (file .entry)) (length (now (file .entry)) / 8) first b) (start b) ⌝ }
 {
     let mut m = Reached {
@@ -138,7 +173,7 @@ fn reach(file: &[u8], spans: &[u16; 4096], first: usize, ranges: Box, b: Box) ->
     let mut at = first;
     let mut left = file.len() / 8;
     while 0 < left {
-        if !kind_is(file, 0x04, at) {
+        if !is_update(file, at) {
             return m;
         }
         let t = target_at(file, spans, at, b);
@@ -149,7 +184,7 @@ fn reach(file: &[u8], spans: &[u16; 4096], first: usize, ranges: Box, b: Box) ->
     m
 }
 
-// The transition at record `at`, whose assignments are not looked at where its guard is seen never to hold.
+// The transition at record `at`, whose updates are not looked at where its guard is seen never to hold.
 pub fn next_in(file: &[u8], spans: &[u16; 4096], at: usize, ranges: Box, b: Box) -> Moved
     requires spans { ⌜ Spans (now file) (now spans) ⌝ }
     requires fits { ⌜ TransitionFits (now file) at (b .low) ⌝ }

@@ -5,10 +5,11 @@ use Prim.Native.Nat.{ℕ}
 use lib.IntN.{ℤ}
 use Rattle.truths.specs.Truth.{implies}
 use Rattle.truths.specs.Search.{any}
+use Rattle.truths.specs.Listed.{allPass}
 use Rattle.diagrams.specs.declared.Diagram.{Diagram}
 use Rattle.diagrams.specs.Diagram.{edgeOf}
 use Rattle.diagrams.specs.Truth.{startHolds, nodeHolds, pHolds, qHolds}
-use Rattle.diagrams.specs.System.{guardHolds, valuesFit, isEnabled, nextState}
+use Rattle.diagrams.specs.System.{guardHolds, valuesFit, isEnabled, nextStates}
 use Rattle.conditions.specs.Edges.{carries, isDouble}
 use Rattle.conditions.specs.declared.Condition.{Condition}
 use Rattle.conditions.specs.declared.Condition.the-variants.{Start, Entry, Cover, Range, Step, Enabling}
@@ -31,5 +32,5 @@ conditionHolds file g Start state = implies (startHolds file g state) (someNode 
 conditionHolds file g Entry state = implies (pHolds file g state) (someNode file g state)
 conditionHolds file g (Cover n) state = implies (nodeHolds file g n state) (qHolds file g n state)
 conditionHolds file g (Range n t) state = implies (nodeHolds file g n state && guardHolds file g t state) (valuesFit file g t state)
-conditionHolds file g (Step n t) state = implies (nodeHolds file g n state && isEnabled file g t state) (stepLeads file g n t (nextState file g t state))
+conditionHolds file g (Step n t) state = implies (nodeHolds file g n state) (allPass (stepLeads file g n t) (nextStates file g t state))
 conditionHolds file g (Enabling n t) state = implies (nodeHolds file g n state) (isEnabled file g t state)

@@ -9,6 +9,7 @@ use lib.Dec.{eqb}
 use lib.IntN.{ℤ}
 use Rattle.diagrams.specs.declared.Diagram.{Diagram}
 use Rattle.truths.specs.Search.{any}
+use Rattle.truths.specs.Listed.{allPass}
 use Rattle.truths.specs.Table.{tabulate}
 use Rattle.diagrams.specs.Diagram.{edgeOf}
 use Rattle.diagrams.specs.Truth.{claimedAt, qAt}
@@ -16,7 +17,7 @@ use Rattle.diagrams.specs.System.{stepAt}
 use Rattle.expressions.specs.Expression.{holdsOf}
 use Rattle.expressions.specs.Fits.{TruthFits}
 use Rattle.states.specs.State.{Within}
-use Rattle.evaluating.specs.Step.{guardOf, successorOf, enabledOf}
+use Rattle.evaluating.specs.Step.{guardOf, enabledOf, successorsOf}
 use Rattle.evaluating.specs.Fits.{TransitionFits}
 use Rattle.conditions.specs.Edges.{carries, isDouble}
 use Rattle.truths.specs.Truth.{implies}
@@ -95,7 +96,7 @@ concludesOf lows highs file test Conclusion.SomeTarget state = someHolds file (t
 concludesOf lows highs file test Conclusion.ValuesInRange state =
     implies (guardOf file (test .transition) state) (enabledOf lows highs file (test .transition) state)
 concludesOf lows highs file test Conclusion.Reached state =
-    implies (enabledOf lows highs file (test .transition) state) (someHolds file (targetsListed test) (successorOf file (test .transition) state))
+    allPass (someHolds file (targetsListed test)) (successorsOf lows highs file (test .transition) state)
 concludesOf lows highs file test Conclusion.Enabled state = enabledOf lows highs file (test .transition) state
 
 -- what is seen of that; the targets of a step are looked at in the box that it leads to

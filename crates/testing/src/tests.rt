@@ -12,13 +12,20 @@ use domains::seen::sure;
 use enclosures::seen_in;
 use evaluating::step;
 use expressions::holds;
+use states::advance;
+use states::is_last;
 use successors::next_in;
 ghost use mathlib.Core.Path.{_≡_};
+ghost use mathlib.Core.List.{List};
 ghost use Prim.Native.Nat.{ℕ, _≤_, _<_};
 ghost use lib.ListN.{getD, take};
 ghost use Rattle.expressions.specs.Spans.{Spans};
 ghost use Rattle.expressions.specs.Fits.{TruthFits};
+ghost use lib.IntN.{ℤ};
+ghost use Rattle.truths.specs.Listed.{allPass};
 ghost use Rattle.states.specs.State.{Within};
+ghost use Rattle.states.specs.Ranges.{Ranges};
+ghost use Rattle.states.specs.Number.{statesBetween};
 ghost use Rattle.boxes.specs.Box.{Part};
 ghost use Rattle.testing.specs.Testing.{someHolds, concludesOf, passesOf, TestFits, someIn, concludesIn, passesIn};
 
@@ -42,6 +49,32 @@ fn some_holds(
             return true;
         }
         i += 1;
+    }
+    false
+}
+
+// Whether at each state from `low` to `high` a truth at one of the places holds.
+fn all_hold(
+    file: &[u8],
+    spans: &[u16; 4096],
+    places: [u16; 32],
+    count: usize,
+    low: [i16; 12],
+    high: [i16; 12],
+) -> bool
+    requires spans { ⌜ Spans (now file) (now spans) ⌝ }
+    requires most { ⌜ count ≤ 32 ⌝ }
+    requires ranges { ⌜ Ranges low high ⌝ }
+    requires fits { ⌜ ((state : List ℤ) → Within low high state → (i : ℕ) → i < count → TruthFits (now file) (getD places i 0) state) ⌝ }
+    ensures { λ r. ⌜ r ≡ allPass (someHolds (now (file .entry)) (take count places)) (statesBetween low high) ⌝ }
+{
+    let mut state = low;
+    while some_holds(file, spans, places, count, state) {
+        if is_last(high, state) {
+            return true;
+        }
+        let next = advance(low, high, 12, state);
+        state = next;
     }
     false
 }
@@ -94,8 +127,9 @@ pub fn concludes(
             if !s.enabled {
                 return true;
             }
-            let next = s.next;
-            some_holds(file, spans, targets, test.count, next)
+            let first = s.low;
+            let last = s.high;
+            all_hold(file, spans, targets, test.count, first, last)
         }
         Conclusion::Enabled => {
             let s = step(file, spans, test.transition, low, high, state);

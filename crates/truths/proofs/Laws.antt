@@ -4,3 +4,4 @@ pub mod Any
 pub mod First
 pub mod Answer
 pub mod Table
+pub mod Listed

@@ -4,7 +4,9 @@ use crate::generate::{self, plain, Random};
 use independent::{Claim, Condition, File, Refusal, Tested, Verdict};
 
 /// The whole check is compared on files with at most this many tests: conditions times states.
-pub const TESTS: usize = 100_000;
+const TESTS: usize = 100_000;
+/// And with at most this many successors to look at.
+const SUCCESSORS: usize = 100_000;
 
 /// How a file is read by the independent implementation.
 pub struct Facts {
@@ -46,6 +48,26 @@ impl Facts {
         }
     }
 
+    /// At most so many successors are looked at in the check: for each step condition and state as
+    /// many as its transition has combinations.
+    fn successors(&self) -> usize {
+        let transitions = match &self.reading {
+            Ok(file) => &file.transitions,
+            Err(_) => return 0,
+        };
+        let combinations = |condition: &Condition| match *condition {
+            Condition::Step { transition, .. } => transitions[transition].combinations(),
+            _ => 0,
+        };
+        let combinations: usize = self.conditions.iter().map(combinations).sum();
+        combinations.saturating_mul(self.states)
+    }
+
+    /// Whether the whole check takes little time.
+    pub fn short(&self) -> bool {
+        self.tests() <= TESTS && self.successors() <= SUCCESSORS
+    }
+
     /// The property's a; 0 in an unreadable file, but for one refused with 20.
     pub fn property(&self) -> usize {
         match self.reading.as_ref().ok().or(self.started.as_ref()) {
@@ -85,7 +107,7 @@ impl Case {
         let (bytes, room) = generate::buffer(random);
         let count = match facts.tests() {
             0 if facts.started.is_none() || facts.states > TESTS => 1,
-            0..=TESTS => 3,
+            _ if facts.short() => 3,
             _ => 8,
         };
         let single = |_| {
@@ -96,7 +118,7 @@ impl Case {
             file,
             bytes,
             room,
-            check: room < 32 || facts.tests() <= TESTS,
+            check: room < 32 || facts.short(),
             singles: (0..count).map(single).collect(),
         }
     }

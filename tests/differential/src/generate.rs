@@ -3,6 +3,7 @@
 //! bytes. What comes out depends on the seed and the samples alone.
 
 mod diagrams;
+mod picks;
 mod starts;
 
 use std::ops::Range;
@@ -16,12 +17,12 @@ const STATES: i64 = 1_048_576;
 /// As many records as a file may have.
 pub const RECORDS: usize = 4096;
 
-pub const KINDS: [u8; 25] = [
-    0x01, 0x02, 0x03, 0x04, 0x05, 0x06, 0x07, 0x10, 0x11, 0x12, 0x13, 0x14, 0x15, 0x18, 0x19, 0x20,
-    0x21, 0x22, 0x23, 0x24, 0x25, 0x26, 0x27, 0x28, 0x29,
+pub const KINDS: [u8; 26] = [
+    0x01, 0x02, 0x03, 0x04, 0x05, 0x06, 0x07, 0x08, 0x10, 0x11, 0x12, 0x13, 0x14, 0x15, 0x18, 0x19,
+    0x20, 0x21, 0x22, 0x23, 0x24, 0x25, 0x26, 0x27, 0x28, 0x29,
 ];
 /// Bytes that are no kind, most of them next to one.
-const NO_KINDS: [u8; 10] = [0x00, 0x08, 0x0f, 0x16, 0x17, 0x1a, 0x1f, 0x2a, 0x81, 0xff];
+const NO_KINDS: [u8; 10] = [0x00, 0x09, 0x0f, 0x16, 0x17, 0x1a, 0x1f, 0x2a, 0x81, 0xff];
 
 pub fn record(kind: u8, a: u8, b: i16, c: i16, d: u8) -> Record {
     let ([b0, b1], [c0, c1]) = (b.to_le_bytes(), c.to_le_bytes());
@@ -406,8 +407,10 @@ enum Twist {
     Edges,
     /// An expression of 16 levels, 17 or more.
     Levels,
-    /// A transition assigns all variables, perhaps one of them again.
+    /// A transition assigns or picks all variables, perhaps one of them again.
     Assignments,
+    /// A transition's combinations of picks are at the limit or past it.
+    Picks,
     /// An edge repeated, perhaps with another d.
     RepeatedEdge,
     /// The ranges' product is at the limit or past it.
@@ -427,13 +430,14 @@ enum Twist {
 }
 
 /// The twists with how often they are wanted; those that make long files, seldom.
-const TWISTS: [(Twist, usize); 14] = [
+const TWISTS: [(Twist, usize); 15] = [
     (Twist::Variables, 8),
     (Twist::Transitions, 4),
     (Twist::Nodes, 10),
     (Twist::Edges, 1),
     (Twist::Levels, 12),
-    (Twist::Assignments, 8),
+    (Twist::Assignments, 10),
+    (Twist::Picks, 16),
     (Twist::RepeatedEdge, 8),
     (Twist::Ranges, 12),
     (Twist::Intervals, 20),
@@ -477,6 +481,16 @@ pub struct Transition {
     pub just: bool,
     pub guard: Code,
     pub assignments: Vec<(u8, Code)>,
+    pub picks: Vec<Pick>,
+}
+
+#[derive(Clone, Copy)]
+pub struct Pick {
+    pub variable: u8,
+    pub low: i16,
+    pub high: i16,
+    /// Behind how many of the assignments it stands.
+    pub behind: usize,
 }
 
 #[derive(Clone, Copy, PartialEq)]
@@ -544,7 +558,8 @@ impl Plan {
             };
         }
 
-        let needed = twists.has(Twist::Assignments) || property == CHAIN && nodes > 1;
+        let sets = twists.has(Twist::Assignments) || twists.has(Twist::Picks);
+        let needed = sets || property == CHAIN && nodes > 1;
         let transitions = if twists.has(Twist::Transitions) {
             32 + random.below(2)
         } else if twists.has(Twist::Edges) {
@@ -575,6 +590,8 @@ impl Draft {
         let plan = Plan::random(random, &twists);
         let ranges = if twists.has(Twist::Ranges) {
             limit_ranges(random)
+        } else if twists.has(Twist::Picks) {
+            picks::ranges(random)
         } else {
             few_states(random, twists.has(Twist::Variables))
         };
@@ -597,11 +614,7 @@ impl Draft {
             ranges: ranges.clone(),
             start: grower.any_start(short),
             transitions: (0..plan.transitions)
-                .map(|_| Transition {
-                    just: grower.random.percent(60),
-                    guard: grower.any_truth(short),
-                    assignments: grower.assignments(short),
-                })
+                .map(|_| grower.transition(short))
                 .collect(),
             property: plan.property,
             b: plan.b,
@@ -609,8 +622,11 @@ impl Draft {
             nodes: (0..plan.nodes).map(|_| grower.any_truth(short)).collect(),
             edges: Vec::new(),
         };
+        if twists.has(Twist::Picks) {
+            grower.pick_many(&mut draft);
+        }
         if twists.has(Twist::Assignments) {
-            grower.assign_all(&mut draft);
+            grower.set_all(&mut draft);
         }
         if twists.has(Twist::Levels) {
             grower.deepen(&mut draft);
@@ -652,10 +668,7 @@ impl Draft {
         for transition in &self.transitions {
             records.push(record(0x03, transition.just.into(), 0, 0, 0));
             records.extend(&transition.guard);
-            for (variable, number) in &transition.assignments {
-                records.push(record(0x04, *variable, 0, 0, 0));
-                records.extend(number);
-            }
+            records.extend(transition.sets());
         }
         records.push(record(0x05, self.property, self.b, 0, 0));
         records.extend(self.truths.iter().flatten());
@@ -828,21 +841,29 @@ impl Grower<'_> {
         }
     }
 
-    fn assignments(&mut self, short: bool) -> Vec<(u8, Code)> {
+    fn transition(&mut self, short: bool) -> Transition {
         let mut variables: Vec<u8> = (0..self.ranges.len() as u8).collect();
         self.random.shuffle(&mut variables);
         variables.truncate(self.random.below(if short { 2 } else { 4 }));
-        variables
-            .into_iter()
-            .map(|variable| {
+        let just = self.random.percent(60);
+        let guard = self.any_truth(short);
+        let mut transition = Transition::new(just, guard);
+        let picks = self.random.pick(&[0, 0, 20, 60, 100]);
+        for variable in variables {
+            if self.random.percent(picks) {
+                let pick = self.few_values(variable);
+                transition.pick(self.random, pick);
+            } else {
                 let levels = self.any_levels(short);
-                (variable, self.number(levels, false).0)
-            })
-            .collect()
+                let number = self.number(levels, false).0;
+                transition.assignments.push((variable, number));
+            }
+        }
+        transition
     }
 
-    /// One transition assigns every variable, and perhaps one again.
-    fn assign_all(&mut self, draft: &mut Draft) {
+    /// One transition assigns or picks every variable, and perhaps one again.
+    fn set_all(&mut self, draft: &mut Draft) {
         let mut variables: Vec<u8> = (0..self.ranges.len() as u8).collect();
         self.random.shuffle(&mut variables);
         if self.random.percent(60) {
@@ -850,11 +871,19 @@ impl Grower<'_> {
             let at = self.random.below(variables.len() + 1);
             variables.insert(at, again);
         }
-        let transition = self.random.below(draft.transitions.len());
-        draft.transitions[transition].assignments = variables
-            .into_iter()
-            .map(|variable| (variable, self.number(3, false).0))
-            .collect();
+        let at = self.random.below(draft.transitions.len());
+        let transition = &mut draft.transitions[at];
+        (transition.assignments, transition.picks) = (Vec::new(), Vec::new());
+        let picks = self.random.pick(&[0, 30, 60]);
+        for variable in variables {
+            if self.random.percent(picks) {
+                let pick = self.few_values(variable);
+                transition.pick(self.random, pick);
+            } else {
+                let number = self.number(3, false).0;
+                transition.assignments.push((variable, number));
+            }
+        }
     }
 
     /// One truth gets about 16 levels, and so do some assigned numbers.
@@ -1036,6 +1065,9 @@ pub fn file(random: &mut Random, samples: &Samples) -> Vec<u8> {
             if random.percent(20) {
                 damage_divisor(random, &mut records);
                 times -= 1;
+            } else if random.percent(20) {
+                picks::damage(random, &mut records);
+                times -= 1;
             }
             let mut file = records.concat();
             for _ in 0..times {
@@ -1137,6 +1169,13 @@ fn likely_record(random: &mut Random) -> Record {
     match kind {
         0x01 => record(kind, 0, -(small() as i16), small() as i16, 0),
         0x03 | 0x04 | 0x11 => record(kind, small() as u8 / 2, 0, 0, 0),
+        0x08 => record(
+            kind,
+            small() as u8 / 2,
+            small() as i16 / 2,
+            small() as i16,
+            0,
+        ),
         0x05 => match small() {
             2 => record(kind, 2, 1 + small() as i16, 0, 0),
             a => record(kind, a as u8, 0, 0, 0),
@@ -1153,9 +1192,9 @@ fn likely_record(random: &mut Random) -> Record {
     }
 }
 
-/// The number of a record: any, or, as most belong to expressions, one of kind 01 to 07.
+/// The number of a record: any, or, as most belong to expressions, one of kind 01 to 08.
 fn any_record(random: &mut Random, file: &[u8]) -> usize {
-    let kind = random.pick(&KINDS[..7]);
+    let kind = random.pick(&KINDS[..8]);
     let numbers: Vec<usize> = (0..file.len() / 8)
         .filter(|number| file[8 * number] == kind)
         .collect();
@@ -1173,7 +1212,7 @@ fn any_run(random: &mut Random, file: &[u8]) -> usize {
         return (1 + random.below(3)).min(records);
     }
     (1..records)
-        .find(|number| file[8 * number] <= 0x07)
+        .find(|number| file[8 * number] < 0x10)
         .unwrap_or(records)
 }
 

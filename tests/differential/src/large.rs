@@ -1,7 +1,8 @@
-//! Files of 1,048,576 states that are checked as a whole, with the answer, worked out by hand.
+//! Files of 1,048,576 states that are checked as a whole, and some of 4,096 successors, with the
+//! answer, worked out by hand.
 
 use crate::generate::{
-    constant, join, plain, record, Code, Draft, Edge, Transition, CHAIN, INVARIANCE, WAIT_FOR,
+    constant, join, plain, record, Code, Draft, Edge, Pick, Transition, CHAIN, INVARIANCE, WAIT_FOR,
 };
 use independent::Verdict;
 
@@ -72,9 +73,8 @@ fn falling(property: u8, guard: Code) -> Draft {
         ranges: RANGES.to_vec(),
         start: always(),
         transitions: vec![Transition {
-            just: true,
-            guard,
             assignments: vec![(0, value(0))],
+            ..Transition::new(true, guard)
         }],
         property,
         b: if property == WAIT_FOR { 2 } else { 0 },
@@ -95,9 +95,8 @@ fn keeping(start: Code, q: Code, node: Code) -> Draft {
         ranges: RANGES.to_vec(),
         start,
         transitions: vec![Transition {
-            just: false,
-            guard: always(),
             assignments: vec![(3, variable(3))],
+            ..Transition::new(false, always())
         }],
         property: INVARIANCE,
         b: 0,
@@ -178,9 +177,119 @@ fn starts() -> Vec<Large> {
     list
 }
 
+fn pick(variable: u8, (low, high): (i16, i16)) -> Pick {
+    Pick {
+        variable,
+        low,
+        high,
+        behind: 0,
+    }
+}
+
+/// C8.11: while variable 2 is below -5 a transition adds 1 to it and picks one of two values for
+/// variable 3 and one of two for variable 0.
+fn two_by_two(start: Code, node: Code) -> Draft {
+    let mut draft = keeping(start, always(), node);
+    let transition = &mut draft.transitions[0];
+    transition.guard = join(0x28, &[&variable(2), &value(-5)]);
+    transition.assignments = vec![(2, join(0x12, &[&variable(2), &value(1)]))];
+    transition.picks = vec![pick(3, (62, 63)), pick(0, (30, 31))];
+    draft
+}
+
+/// C8.11, C5.7: a wait-for over -32..31 and 0..63. From the last state a transition picks any state,
+/// and the goal has all but one of them, or all.
+fn from_the_last(v: i16, w: i16) -> Draft {
+    let here = |v, w| {
+        let both = [
+            equal(&variable(0), &value(v)),
+            equal(&variable(1), &value(w)),
+        ];
+        join(0x23, &[&both[0], &both[1]])
+    };
+    let last = here(31, 63);
+    Draft {
+        ranges: vec![(-32, 31), (0, 63)],
+        start: last.clone(),
+        transitions: vec![Transition {
+            picks: vec![pick(1, (0, 63)), pick(0, (-32, 31))],
+            ..Transition::new(false, always())
+        }],
+        property: WAIT_FOR,
+        b: 2,
+        truths: vec![last.clone(), always(), always()],
+        nodes: vec![not(&here(v, w)), last],
+        edges: vec![Edge {
+            transition: 0,
+            from: 1,
+            to: 0,
+            double: false,
+        }],
+    }
+}
+
+/// Steps with several successors. Condition 3 is the step of `two_by_two`, 4 that of
+/// `from_the_last`, which has 4,096 states.
+fn picks() -> Vec<Large> {
+    let at = |number, is| equal(&variable(number), &value(is));
+    let both = |left: &Code, right: &Code| join(0x23, &[left, right]);
+    // Variable 2 rises to -5 and stops, so that the states with -6 lead to those with -5.
+    let end = both(&at(2, -5), &at(0, 31));
+    let last = both(&end, &at(3, 63));
+    let second = both(&both(&at(2, -5), &at(0, 30)), &at(3, 63));
+    // The lowest state with -6: 14 × 64 = 896 before it.
+    let tests = 3 * 1_048_576 + 896 + 1;
+    let mut list = vec![
+        large(
+            "two picks, accepted",
+            two_by_two(always(), always()),
+            0,
+            4,
+            4_194_304,
+        ),
+        large(
+            "two picks, step broken by the last of four successors",
+            two_by_two(not(&last), not(&last)),
+            17,
+            3,
+            tests,
+        ),
+        large(
+            "two picks, step broken by the second of four successors",
+            two_by_two(not(&second), not(&second)),
+            17,
+            3,
+            tests,
+        ),
+    ];
+    for (v, w) in [(-32, 0), (-32, 1), (-31, 0), (0, 17), (31, 0), (31, 62)] {
+        let name = format!("4,096 successors, step broken by {v}, {w}");
+        list.push(large(&name, from_the_last(v, w), 17, 4, 5 * 4_096));
+    }
+    // The last state is in the node itself.
+    let kept = from_the_last(31, 63);
+    list.push(large(
+        "4,096 successors, one in the node",
+        kept,
+        0,
+        5,
+        5 * 4_096,
+    ));
+    let all = from_the_last(0, 64);
+    list.push(large(
+        "4,096 successors, all in the goal",
+        all,
+        0,
+        5,
+        5 * 4_096,
+    ));
+    list
+}
+
 pub fn cases() -> Vec<Large> {
     let others = || not(&last_state());
     let mut list = starts();
+    list.extend(picks());
     list.extend([
         large(
             "an invariance, accepted",

@@ -1,8 +1,8 @@
-//! Files at each limit and one past it, with divisors that can and can't be such, and with starts
-//! that can and can't happen, with how they must be read.
+//! Files at each limit and one past it, with divisors and picks that can and can't be such, and with
+//! starts that can and can't happen, with how they must be read.
 
 use crate::generate::{
-    constant, join, plain, record, truth_of_size, value, Code, Draft, Edge, Random, Record,
+    constant, join, plain, record, truth_of_size, value, Code, Draft, Edge, Pick, Random, Record,
     Transition, CHAIN, INVARIANCE, RECORDS, WAIT_FOR,
 };
 
@@ -27,6 +27,11 @@ pub fn cases() -> Vec<Limit> {
     divided_intervals(&mut list);
     starts(&mut list);
     starts_and_others(&mut list);
+    picks(&mut list);
+    picks_again(&mut list);
+    picks_elsewhere(&mut list);
+    combinations(&mut list);
+    combinations_and_others(&mut list);
     list.0
 }
 
@@ -81,11 +86,7 @@ fn draft(property: u8, nodes: usize) -> Draft {
 
 /// Just, with a true guard and no assignment: two records.
 fn idle() -> Transition {
-    Transition {
-        just: true,
-        guard: always(),
-        assignments: Vec::new(),
-    }
+    Transition::new(true, always())
 }
 
 /// A double edge from each node to node 0, as a chain needs them.
@@ -737,4 +738,272 @@ fn starts_and_others(list: &mut List) {
     let mut chain = started(CHAIN, &never());
     chain.edges.clear();
     list.refused("start false and no double edge", chain.records(), 10, 1);
+}
+
+/// Variables in 0..3 and -2..2 and a transition that sets them so. Its records: 0 and 1 variables,
+/// 2 start, 3 true, 4 transition, 5 guard, then the assignments and picks.
+fn setting(sets: &[Record]) -> Vec<Record> {
+    let mut draft = draft(INVARIANCE, 1);
+    draft.ranges = vec![(0, 3), (-2, 2)];
+    draft.transitions = vec![idle()];
+    let mut records = draft.records();
+    records.splice(6..6, sets.iter().copied());
+    records
+}
+
+fn pick(variable: u8, low: i16, high: i16) -> Record {
+    record(0x08, variable, low, high, 0)
+}
+
+fn assignment(variable: u8) -> [Record; 2] {
+    [record(0x04, variable, 0, 0, 0), constant(0)]
+}
+
+/// C1.4, C1.15, C1.16, C10.4.
+fn picks(list: &mut List) {
+    for (variable, low, high) in [(0, 0, 3), (0, 0, 0), (0, 3, 3), (1, -2, 2), (1, -2, -1)] {
+        let name = format!("pick {low}..{high} of variable {variable}");
+        list.readable(&name, setting(&[pick(variable, low, high)]));
+    }
+    for (variable, low, high) in [
+        (0, -1, 3),
+        (0, 0, 4),
+        (0, -1, -1),
+        (0, 4, 4),
+        (0, -1, 4),
+        (1, -3, 2),
+        (1, -2, 3),
+        (0, 1, 0),
+        (0, 3, 0),
+        (1, 2, -2),
+        (1, 0, -1),
+        (0, i16::MIN, i16::MAX),
+        (0, i16::MAX, i16::MIN),
+        (2, 0, 0),
+        (255, 0, 0),
+    ] {
+        let name = format!("pick {low}..{high} of variable {variable}");
+        list.refused(&name, setting(&[pick(variable, low, high)]), 4, 6);
+    }
+    for byte in [6, 7] {
+        for value in [1, 128] {
+            let mut bad = setting(&[pick(0, 0, 3)]);
+            bad[6][byte] = value;
+            list.refused(&format!("byte {byte} of a pick is {value}"), bad, 4, 6);
+        }
+    }
+}
+
+/// C1.8, C1.17, C10.6, C11.2.
+fn picks_again(list: &mut List) {
+    let (one, other) = ([pick(0, 0, 1)], [pick(1, 0, 2)]);
+    let ([first, value], [second, _]) = (assignment(0), assignment(1));
+    for (name, sets) in [
+        ("two picks", [one, other].concat()),
+        ("two picks, the later variable first", [other, one].concat()),
+        ("a pick, then an assignment", vec![one[0], second, value]),
+        ("an assignment, then a pick", vec![second, value, one[0]]),
+    ] {
+        list.readable(name, setting(&sets));
+    }
+    for (name, sets, place) in [
+        ("picked again", vec![one[0], one[0]], 7),
+        ("picked again, other values", vec![one[0], pick(0, 2, 3)], 7),
+        ("assigned, then picked", vec![first, value, one[0]], 8),
+        ("picked, then assigned", vec![one[0], first, value], 7),
+        ("picked, then assigned nothing", vec![one[0], first], 7),
+        (
+            "picked again behind another pick",
+            vec![one[0], other[0], one[0]],
+            8,
+        ),
+        (
+            "picked again behind an assignment",
+            vec![one[0], second, value, one[0]],
+            9,
+        ),
+        (
+            "assigned, then picked, behind a pick",
+            vec![first, value, other[0], one[0]],
+            9,
+        ),
+        (
+            "picked, then assigned, behind a pick",
+            vec![one[0], other[0], first, value],
+            8,
+        ),
+    ] {
+        list.refused(name, setting(&sets), 6, place);
+    }
+    for (name, sets, place) in [
+        ("picked again out of range", vec![one[0], pick(0, 0, 4)], 7),
+        (
+            "picked, then a field",
+            vec![one[0], record(0x04, 0, 1, 0, 0)],
+            7,
+        ),
+        (
+            "assigned, then picked out of range",
+            vec![first, value, pick(0, -1, 0)],
+            8,
+        ),
+    ] {
+        list.refused(name, setting(&sets), 4, place);
+    }
+    let two = [one[0], record(0x03, 0, 0, 0, 0), plain(0x20), one[0]];
+    list.readable("picked in two transitions", setting(&two));
+}
+
+/// C1.5, C10.3: a pick before each record of a file, and behind the last.
+fn picks_elsewhere(list: &mut List) {
+    let mut draft = draft(WAIT_FOR, 2);
+    draft.transitions = vec![idle()];
+    draft.transitions[0].assignments = vec![(0, vec![constant(0)])];
+    draft.edges = vec![Edge {
+        transition: 0,
+        from: 1,
+        to: 0,
+        double: false,
+    }];
+    let records = draft.records();
+    // 3 is the transition, 4 its guard, 5 the assignment, 6 its value, 7 the property.
+    for at in 0..=records.len() {
+        let mut with = records.clone();
+        with.insert(at, pick(0, 0, 1));
+        let name = format!("a pick before record {at}");
+        match at {
+            5 => list.refused(&name, with, 6, 6),
+            7 => list.refused(&name, with, 6, 7),
+            _ => list.refused(&name, with, 3, at),
+        }
+    }
+    let behind = [pick(0, 0, 1), constant(0)];
+    list.refused("a number behind a pick", setting(&behind), 3, 7);
+    let behind = [pick(0, 0, 1), plain(0x20)];
+    list.refused("a truth behind a pick", setting(&behind), 3, 7);
+}
+
+/// A draft with ranges of so many values, an idle transition, and one that picks so many of the
+/// highest of some variables; and how many records stand before that one.
+fn picking(property: u8, sizes: &[i16], picks: &[(u8, i16)]) -> (Draft, usize) {
+    let mut draft = draft(property, 2);
+    draft.ranges = sizes.iter().map(|&size| (1 - size, 0)).collect();
+    let mut transition = idle();
+    transition.guard = never();
+    transition.picks = picks
+        .iter()
+        .map(|&(variable, values)| Pick {
+            variable,
+            low: 1 - values,
+            high: 0,
+            behind: 0,
+        })
+        .collect();
+    draft.transitions = vec![idle(), transition];
+    if property == CHAIN {
+        draft.edges = double_edges(2);
+    }
+    (draft, sizes.len() + 4)
+}
+
+/// C5.7, C10.22.
+fn combinations(list: &mut List) {
+    let twelve: Vec<(u8, i16)> = (0..12).map(|variable| (variable, 2)).collect();
+    let mut last_of_3 = twelve.clone();
+    last_of_3[11].1 = 3;
+    let mut sizes_last_of_3 = [2; 12];
+    sizes_last_of_3[11] = 3;
+    for (sizes, picks, many) in [
+        (&[4096][..], &[(0, 4096)][..], false),
+        (&[4097], &[(0, 4096)], false),
+        (&[4097], &[(0, 4097)], true),
+        (&[32_767], &[(0, 32_767)], true),
+        (&[64, 64], &[(0, 64), (1, 64)], false),
+        (&[64, 65], &[(0, 64), (1, 64)], false),
+        (&[64, 65], &[(1, 65), (0, 63)], false),
+        (&[64, 65], &[(0, 64), (1, 65)], true),
+        (&[65, 64], &[(1, 64), (0, 65)], true),
+        (&[17, 241], &[(0, 17), (1, 240)], false),
+        (&[17, 241], &[(0, 17), (1, 241)], true),
+        (&[4096, 2], &[(0, 4096)], false),
+        (&[4096, 2], &[(0, 4096), (1, 1)], false),
+        (&[4096, 2], &[(1, 2), (0, 2048)], false),
+        (&[4096, 2], &[(1, 2), (0, 2049)], true),
+        (&[4096, 2], &[(0, 4096), (1, 2)], true),
+        (&[16, 16, 16], &[(0, 16), (1, 16), (2, 16)], false),
+        (&[16, 17, 16], &[(0, 16), (1, 16), (2, 16)], false),
+        (&[16, 17, 16], &[(0, 16), (1, 17), (2, 16)], true),
+        (&[16, 16, 17], &[(2, 17), (0, 16), (1, 16)], true),
+        (&[2; 12], &twelve[..], false),
+        (&sizes_last_of_3, &twelve, false),
+        (&sizes_last_of_3, &last_of_3, true),
+    ] {
+        let (draft, place) = picking(INVARIANCE, sizes, picks);
+        let name = format!("picks {picks:?} of {sizes:?} values");
+        match many {
+            true => list.refused(&name, draft.records(), 22, place),
+            false => list.readable(&name, draft.records()),
+        }
+    }
+    // Each transition has its own.
+    let (mut draft, place) = picking(INVARIANCE, &[64, 65], &[(0, 64), (1, 64)]);
+    let most = draft.transitions[1].clone();
+    draft.transitions = vec![idle(), most.clone(), most.clone(), most];
+    list.readable("4,096 combinations in three transitions", draft.records());
+    for first in 1..4 {
+        let mut draft = Draft {
+            transitions: draft.transitions.clone(),
+            ..picking(INVARIANCE, &[64, 65], &[]).0
+        };
+        for transition in &mut draft.transitions[first..] {
+            transition.picks[1].low = -64;
+        }
+        let name = format!("4,160 combinations from transition {first} on");
+        // A transition with two picks has four records.
+        list.refused(&name, draft.records(), 22, place + 4 * (first - 1));
+    }
+}
+
+/// C11.1: 22 with 7 before it, and with 8, 9, 10, 20 and broken conditions behind it.
+fn combinations_and_others(list: &mut List) {
+    for property in [INVARIANCE, WAIT_FOR, CHAIN] {
+        for values in [64, 65] {
+            let many = values == 65;
+            let name = |text: &str| format!("{values} × 64 picks and {text}, property {property}");
+            let new = || picking(property, &[65, 64], &[(1, 64), (0, values)]);
+            let mut add = |text: &str, draft: Draft, other: Option<(u8, usize)>| {
+                let refusal = if many { Some((22, 6)) } else { other };
+                let refusal = refusal.map(|(number, place)| (number, place as u32));
+                list.add(&name(text), draft.records().concat(), refusal);
+            };
+            let mut interval = new().0;
+            let out = join(0x14, &[&vec![constant(1001)], &vec![constant(1000)]]);
+            interval.nodes[1] = join(0x28, &[&out, &value(0)]);
+            let place = interval.records().len() - 4 - interval.edges.len();
+            add("an interval", interval, Some((8, place)));
+            let mut edge = new().0;
+            edge.edges.push(Edge {
+                transition: 0,
+                from: 0,
+                to: 1,
+                double: true,
+            });
+            let place = edge.records().len() - 1;
+            add("an edge", edge, Some((9, place)));
+            let mut no_start = new().0;
+            no_start.start = never();
+            add("no start", no_start, Some((20, 0)));
+            let mut no_node = new().0;
+            no_node.nodes = vec![never(); 2];
+            add("no node", no_node, None);
+            if property == CHAIN {
+                let mut no_double = new().0;
+                no_double.edges.clear();
+                add("no double edge", no_double, Some((10, 1)));
+            }
+        }
+        let (draft, _) = picking(property, &[1024, 1025], &[(0, 1024), (1, 5)]);
+        let name = format!("5,120 combinations and too many states, property {property}");
+        list.refused(&name, draft.records(), 7, 1);
+    }
 }

@@ -251,10 +251,8 @@ fn shrink(case: &Case) -> Case {
 }
 
 fn still_differs(case: &Case) -> bool {
-    let differs = AssertUnwindSafe(|| {
-        let short = Facts::of(&case.file).tests() <= differential::compare::TESTS;
-        (short || !case.check) && case.differs()
-    });
+    let differs =
+        AssertUnwindSafe(|| (Facts::of(&case.file).short() || !case.check) && case.differs());
     catch_unwind(differs).unwrap_or(false)
 }
 

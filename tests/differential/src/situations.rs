@@ -1,6 +1,8 @@
 //! What makes a file special: a limit reached or passed by one, refusals that meet. Told from the
 //! file and from how it is read. And what makes its verdict special: the tests, the breaking state.
 
+pub mod picks;
+
 use crate::compare::{Case, Facts};
 use crate::generate::{
     self, combine, constant, divisors, levels, operands, owners, plain, with_start, Interval,
@@ -531,7 +533,7 @@ fn reached(records: &[Record], read: &File, states: usize) -> Vec<&'static str> 
 fn divided(records: &[Record], read: &File) -> Vec<&'static str> {
     let owners = owners(records);
     let kind = |at: usize| records[at][0];
-    // The last record of kinds 01 to 07 up to each.
+    // The last record of kinds 01 to 08 up to each.
     let mut sections = Vec::new();
     for record in records {
         let last = sections.last().copied().unwrap_or(0);
@@ -584,7 +586,7 @@ fn refused(length: usize, records: &[Record], refusal: &Refusal) -> Vec<&'static
     let place = refusal.place as usize;
     let at = records.get(place).copied();
     let kind = at.map_or(0, |record| record[0]);
-    // How many records of that kind stand before: no expression holds kinds 01 to 07.
+    // How many records of that kind stand before: no expression holds kinds 01 to 08.
     let before = |kind| {
         records
             .iter()
@@ -852,15 +854,15 @@ fn no_divisor(record: &Record) -> bool {
     record[0] != 0x10 || field_b(record) <= 0
 }
 
-/// Whether an assignment or an edge behind that place repeats another.
+/// Whether a record behind that place sets a variable again, or repeats an edge.
 fn repeats_behind(records: &[Record], place: usize) -> bool {
     (place + 1..records.len()).any(|at| {
         let one = &records[at];
         let before = records[..at].iter().rev();
         match one[0] {
-            0x04 => {
+            0x04 | 0x08 => {
                 let mut transition = before.take_while(|other| other[0] != 0x03);
-                transition.any(|other| other[..2] == one[..2])
+                transition.any(|other| matches!(other[0], 0x04 | 0x08) && other[1] == one[1])
             }
             0x07 => before
                 .take_while(|other| other[0] == 0x07)

@@ -1,6 +1,8 @@
 //! What came up in the compared files.
 
 use crate::compare::{Answers, Case, Facts};
+use crate::generate;
+use crate::situations::picks::{self, PICKED, PICKS, SINGLES};
 use crate::situations::{self, BREAKING, SITUATIONS, STARTLESS, UNNAMED};
 use independent::Tested;
 use std::collections::HashSet;
@@ -12,8 +14,8 @@ const OFTEN: u64 = 100;
 /// Every situation must.
 const SELDOM: u64 = 10;
 
-/// The verdicts' numbers are 0 to 20.
-const NUMBERS: usize = 21;
+/// The verdicts' numbers are 0 to 20 and 22.
+const NUMBERS: usize = 23;
 const PROPERTIES: [&str; 4] = ["none", "invariance", "wait-for", "chain"];
 /// The numbers of broken conditions, with the properties that have such conditions.
 const CONDITIONS: [(usize, &str, &[usize]); 6] = [
@@ -47,6 +49,10 @@ pub struct Tally {
     breaking: [[u64; BREAKING.len()]; NUMBERS],
     /// Single tests refused with 20, by property.
     startless: [[u64; STARTLESS.len()]; 4],
+    picks: [u64; PICKS.len()],
+    /// Verdicts about files with picks, by property.
+    picked: [[u64; PICKED.len()]; 4],
+    singles: [u64; SINGLES.len()],
     /// Readable files that have too many tests for the whole check.
     singles_only: u64,
 }
@@ -64,6 +70,9 @@ impl Default for Tally {
             unnamed: [0; UNNAMED.len()],
             breaking: [[0; BREAKING.len()]; NUMBERS],
             startless: [[0; STARTLESS.len()]; 4],
+            picks: [0; PICKS.len()],
+            picked: [[0; PICKED.len()]; 4],
+            singles: [0; SINGLES.len()],
             singles_only: 0,
         }
     }
@@ -110,6 +119,23 @@ impl Tally {
         add(&mut self.startless[property], &STARTLESS, found);
         let found = situations::of(&case.file, facts);
         add(&mut self.situations, &SITUATIONS, found);
+        self.count_picks(case, facts, answers);
+    }
+
+    fn count_picks(&mut self, case: &Case, facts: &Facts, answers: &Answers) {
+        let found = picks::of(&generate::records(&case.file), facts);
+        add(&mut self.picks, &PICKS, found);
+        let file = match &facts.reading {
+            Ok(file) => file,
+            Err(_) => return,
+        };
+        if let Some((verdict, _)) = &answers.check {
+            let found = picks::checked(file, facts, verdict);
+            let names = PICKED.map(|(name, _)| name);
+            add(&mut self.picked[facts.property()], &names, found);
+        }
+        let found = picks::tested(case, file, facts, &answers.singles);
+        add(&mut self.singles, &SINGLES, found);
     }
 
     /// What must have come up so often.
@@ -120,11 +146,11 @@ impl Tally {
             let name = format!("{name}: {count}, at least {least}");
             tests.push((name, count >= least));
         };
-        for number in (0..=10).chain(13..=20) {
+        for number in (0..=10).chain(13..=20).chain([22]) {
             let count = self.checks[number].iter().sum();
             least(format!("checks of number {number}"), count, often);
         }
-        for number in (2..=12).chain([19, 20]) {
+        for number in (2..=12).chain([19, 20, 22]) {
             let name = format!("single tests of number {number}");
             least(name, self.refused[number], often);
         }
@@ -171,6 +197,18 @@ impl Tally {
             for (&count, state) in self.breaking[number].iter().zip(BREAKING) {
                 least(format!("{condition} broken {state}"), count, seldom);
             }
+        }
+        for (&count, name) in self.picks.iter().zip(PICKS) {
+            least(name.to_string(), count, seldom);
+        }
+        for (at, (name, properties)) in PICKED.iter().enumerate() {
+            for &property in *properties {
+                let count = self.picked[property][at];
+                least(format!("{name}, {}", PROPERTIES[property]), count, seldom);
+            }
+        }
+        for (&count, name) in self.singles.iter().zip(SINGLES) {
+            least(format!("single tests of {name}"), count, seldom);
         }
         least("single tests only".to_string(), self.singles_only, often);
         tests
@@ -222,6 +260,19 @@ impl Tally {
         println!("situations");
         for (count, name) in self.situations.iter().zip(SITUATIONS) {
             println!("{count:6} {name}");
+        }
+        println!("picks");
+        for (count, name) in self.picks.iter().zip(PICKS) {
+            println!("{count:6} {name}");
+        }
+        println!("with picks          invariance  wait-for   chain");
+        for (at, (name, _)) in PICKED.iter().enumerate() {
+            let [_, invariance, wait_for, chain] = self.picked.map(|counts| counts[at]);
+            println!("{invariance:30} {wait_for:9} {chain:7}  {name}");
+        }
+        println!("single tests with picks");
+        for (count, name) in self.singles.iter().zip(SINGLES) {
+            println!("{count:6} of {name}");
         }
     }
 }

@@ -1,6 +1,6 @@
 //! The conditions, their order and what each demands of a state (C8).
 
-use crate::evaluate::{assigned, successor, truth};
+use crate::evaluate::{assigned, enabled, successors, truth};
 use crate::file::{Claim, File, Transition, Truth, Variable};
 use crate::states::State;
 
@@ -124,7 +124,7 @@ pub enum Obligation<'a> {
         node: &'a Truth,
         transition: &'a Transition,
     },
-    /// C8.11: from the node, an enabled transition leads to one of these.
+    /// C8.11, C8.12: from the node, each successor satisfies one of these.
     Step {
         node: &'a Truth,
         transition: &'a Transition,
@@ -179,14 +179,11 @@ impl<'a> Obligation<'a> {
                 transition,
                 any,
             } => {
-                !truth(node, state)
-                    || match successor(transition, ranges, state) {
-                        Some(next) => satisfies_one(any, &next),
-                        None => true,
-                    }
+                let arrives = |next: &State| satisfies_one(any, next);
+                !truth(node, state) || successors(transition, ranges, state).iter().all(arrives)
             }
             Obligation::Enabling { node, transition } => {
-                !truth(node, state) || successor(transition, ranges, state).is_some()
+                !truth(node, state) || enabled(transition, ranges, state)
             }
         }
     }

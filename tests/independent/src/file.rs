@@ -58,12 +58,31 @@ pub struct Assignment {
     pub value: Number,
 }
 
-/// C1.8; C5.5: whether it is just.
+/// C1.16: a variable, and the values that it may take, both ends included.
+#[derive(Clone, Copy, Debug, PartialEq, Eq)]
+pub struct Pick {
+    pub variable: usize,
+    pub low: i16,
+    pub high: i16,
+}
+
+/// C1.8, and the number of its record; C5.5: whether it is just. Assignments and picks are in file
+/// order each; C1.17: no two are for one variable.
 #[derive(Clone, Debug, PartialEq, Eq)]
 pub struct Transition {
+    pub place: usize,
     pub just: bool,
     pub guard: Truth,
     pub assignments: Vec<Assignment>,
+    pub picks: Vec<Pick>,
+}
+
+impl Transition {
+    /// C5.3: how many combinations its picks have, 1 without a pick. C10.22 multiplies so too.
+    pub fn combinations(&self) -> usize {
+        let values = |pick: &Pick| (i32::from(pick.high) - i32::from(pick.low) + 1) as usize;
+        self.picks.iter().map(values).fold(1, usize::saturating_mul)
+    }
 }
 
 /// C1.10, C1.12: the property, by what it claims.

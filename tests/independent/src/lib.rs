@@ -18,8 +18,8 @@ mod start;
 mod states;
 
 pub use conditions::Condition;
-pub use evaluate::{number, successor, truth};
-pub use file::{Assignment, Claim, Edge, File, Number, Pair, Transition, Truth, Variable};
+pub use evaluate::{enabled, number, successors, truth};
+pub use file::{Assignment, Claim, Edge, File, Number, Pair, Pick, Transition, Truth, Variable};
 pub use refusal::Refusal;
 pub use report::{Verdict, REPORT_LENGTH};
 pub use states::{all as states, State};
@@ -34,12 +34,13 @@ pub enum Tested {
     Refused { number: u8, place: u32 },
 }
 
-/// C11.1, C11.6: reads a file. Refusals 2 to 10, 19 and 20, each tried for the whole file before
-/// the next, but 3 to 6 and 19 record by record.
+/// C11.1, C11.6: reads a file. Refusals 2 to 7, 22, 8 to 10 and 20, each tried for the whole file
+/// before the next, but 3 to 6 and 19 record by record.
 pub fn read(file: &[u8]) -> Result<File, Refusal> {
     records::check_length(file)?;
     let file = parse::parse(file)?;
     limits::check_states(&file)?;
+    limits::check_picks(&file)?;
     intervals::check_expressions(&file)?;
     edges::check_rules(&file)?;
     edges::check_doubles(&file)?;
@@ -92,8 +93,8 @@ pub fn single(file: &[u8], condition: usize, state: usize) -> Tested {
     }
 }
 
-/// C13.2, C13.3: refusals 2 to 10, 19 and 20, then C10.11, then C10.12; else whether the condition
-/// holds.
+/// C13.2, C13.3: refusals 2 to 10, 19, 20 and 22, then C10.11, then C10.12; else whether the
+/// condition holds.
 fn test(file: &[u8], condition: usize, state: usize) -> Result<bool, Refusal> {
     let file = read(file)?;
     let conditions = file.conditions();

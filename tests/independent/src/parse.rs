@@ -1,6 +1,6 @@
 //! Reading the records into a [`File`]. C11.2: refusals 3 to 6 and 19, in order, record by record.
 
-use crate::file::{Assignment, Claim, Edge, File, Number, Pair, Transition, Truth, Variable};
+use crate::file::{Assignment, Claim, Edge, File, Number, Pair, Pick, Transition, Truth, Variable};
 use crate::records::*;
 use crate::refusal::{Refusal, DIVISOR, FIELD, KIND, LIMIT, REPEAT};
 
@@ -35,8 +35,8 @@ struct Parser<'a> {
     file: &'a [u8],
     /// The number of the record to be read next.
     at: usize,
-    /// How many variables the file has, known once they are read.
-    variables: usize,
+    /// The variables, known once they are read.
+    variables: Vec<Variable>,
 }
 
 impl<'a> Parser<'a> {
@@ -44,7 +44,7 @@ impl<'a> Parser<'a> {
         Parser {
             file,
             at: 0,
-            variables: 0,
+            variables: Vec::new(),
         }
     }
 
@@ -73,7 +73,7 @@ impl<'a> Parser<'a> {
         self.demand(met, LIMIT)
     }
 
-    /// C10.6: neither assigned again, nor an edge repeated.
+    /// C10.6: neither a variable set again, nor an edge repeated.
     fn fresh(&self, met: bool) -> Result<(), Refusal> {
         self.demand(met, REPEAT)
     }
@@ -128,7 +128,7 @@ impl<'a> Parser<'a> {
                 high: record.c,
             });
         }
-        self.variables = variables.len();
+        self.variables = variables.clone();
         Ok(variables)
     }
 
@@ -146,30 +146,67 @@ impl<'a> Parser<'a> {
         while let Some(record) = self.optional(TRANSITION) {
             self.fields(record.zero_except(&[Field::A]) && record.a <= 1)?;
             self.within(transitions.len() < MOST_TRANSITIONS)?;
+            let place = self.at;
             self.advance();
+            let guard = self.truth(1)?;
+            let (assignments, picks) = self.assignments_and_picks()?;
             transitions.push(Transition {
+                place,
                 just: record.a == 1,
-                guard: self.truth(1)?,
-                assignments: self.assignments()?,
+                guard,
+                assignments,
+                picks,
             });
         }
         Ok(transitions)
     }
 
-    /// C1.9, C1.15.
-    fn assignments(&mut self) -> Result<Vec<Assignment>, Refusal> {
+    /// C1.8: assignments and picks in any order. C1.17: each variable is set once.
+    fn assignments_and_picks(&mut self) -> Result<(Vec<Assignment>, Vec<Pick>), Refusal> {
         let mut assignments: Vec<Assignment> = Vec::new();
-        while let Some(record) = self.optional(ASSIGNMENT) {
-            let variable = usize::from(record.a);
-            let known = variable < self.variables;
-            self.fields(record.zero_except(&[Field::A]) && known)?;
-            let again = assignments.iter().any(|one| one.variable == variable);
-            self.fresh(!again)?;
-            self.advance();
-            let value = self.number(1)?;
-            assignments.push(Assignment { variable, value });
+        let mut picks: Vec<Pick> = Vec::new();
+        loop {
+            let assigned = |variable| assignments.iter().any(|one| one.variable == variable);
+            let picked = |variable| picks.iter().any(|one| one.variable == variable);
+            if let Some(record) = self.optional(ASSIGNMENT) {
+                let variable = self.assigned_variable(record)?;
+                self.fresh(!assigned(variable) && !picked(variable))?;
+                self.advance();
+                let value = self.number(1)?;
+                assignments.push(Assignment { variable, value });
+            } else if let Some(record) = self.optional(PICK) {
+                let pick = self.pick(record)?;
+                self.fresh(!picked(pick.variable) && !assigned(pick.variable))?;
+                self.advance();
+                picks.push(pick);
+            } else {
+                return Ok((assignments, picks));
+            }
         }
-        Ok(assignments)
+    }
+
+    /// C1.9, C1.15.
+    fn assigned_variable(&self, record: Record) -> Result<usize, Refusal> {
+        let variable = usize::from(record.a);
+        let known = variable < self.variables.len();
+        self.fields(record.zero_except(&[Field::A]) && known)?;
+        Ok(variable)
+    }
+
+    /// C1.16, C1.15: the pick, its fields allowed.
+    fn pick(&self, record: Record) -> Result<Pick, Refusal> {
+        self.fields(record.zero_except(&[Field::A, Field::B, Field::C]))?;
+        let variable = usize::from(record.a);
+        self.fields(variable < self.variables.len())?;
+        let (low, high) = (record.b, record.c);
+        let range = self.variables[variable];
+        self.fields(low <= high)?;
+        self.fields(range.low <= low && high <= range.high)?;
+        Ok(Pick {
+            variable,
+            low,
+            high,
+        })
     }
 
     /// C1.10, C1.12.
@@ -299,7 +336,7 @@ impl<'a> Parser<'a> {
         let variable = usize::from(record.a);
         self.fields(match record.kind {
             CONSTANT => record.zero_except(&[Field::B]),
-            VALUE => record.zero_except(&[Field::A]) && variable < self.variables,
+            VALUE => record.zero_except(&[Field::A]) && variable < self.variables.len(),
             _ => record.zero_except(&[]),
         })?;
         self.within(level <= MOST_LEVELS)?;

@@ -12,6 +12,7 @@ pub const ASSIGNMENT: u8 = 0x04;
 pub const PROPERTY: u8 = 0x05;
 pub const NODE: u8 = 0x06;
 pub const EDGE: u8 = 0x07;
+pub const PICK: u8 = 0x08;
 
 pub const CONSTANT: u8 = 0x10;
 pub const VALUE: u8 = 0x11;

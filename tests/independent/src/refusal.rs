@@ -14,6 +14,7 @@ pub const CONDITION_NUMBER: u8 = 11;
 pub const STATE_NUMBER: u8 = 12;
 pub const DIVISOR: u8 = 19;
 pub const NO_START: u8 = 20;
+pub const PICKS: u8 = 22;
 
 /// A refusal without a condition: its number and its place.
 #[derive(Clone, Copy, Debug, PartialEq, Eq)]

@@ -1,6 +1,7 @@
 -- Laws of what is seen of truths: it says of what a connective makes of them what the connective makes of what is seen.
 --     opposite-says, both-says, either-says, implies-says, implied-says     not, and, or, implies
 --     both-asked                                              and, where the right one is asked only behind a true left one
+--     alike-says, all-pass-says                                   of several truths of which the same is seen
 --     connect-says, literal-says                              a connective by its kind; true and false
 --     literal-true, literal-false                             what is seen of these by their kinds
 --     decided                                                 the right operand doesn't count where the left one decides
@@ -11,12 +12,15 @@
 --     says-yes, says-no                                       what is so may be seen for sure
 -- Assumes nothing.
 use mathlib.Core.Path.{_≡_, refl, ap}
-use mathlib.Core.Bool.{Bool, true, false, not, cond, _&&_, _||_, Bool·beq, true≢false, or-comm}
+use mathlib.Core.Bool.{Bool, true, false, not, cond, _&&_, _||_, Bool·beq, true≢false, or-comm, and-eq-true-iff}
+use mathlib.Core.List.{List}
 use Prim.Native.Nat.{ℕ}
 use lib.Dec.{eqb}
 use borrow.Author.Tests.{eqb-true}
 use Rattle.truths.specs.Truth.{implies}
+use Rattle.truths.specs.Listed.{Member, allPass}
 use Rattle.truths.proofs.Laws.Truth.{implies-or, by-test}
+use Rattle.truths.proofs.Laws.Listed.{all-pass-each, all-pass-fails}
 use Rattle.expressions.specs.Expression.{connectOf}
 use Rattle.expressions.proofs.Laws.Connect.{connect-by}
 use Rattle.domains.specs.declared.seen.Seen.{Seen}
@@ -86,6 +90,20 @@ both-asked (Unsure v) (Unsure w) a b h k = tt
 
 pub both-says : (p q : Seen) (a b : Bool) → Says p a → Says q b → Says (bothOf p q) (a && b)
 both-says p q a b h k = both-asked p q a b h (λ e. k)
+
+-- what is said of each of several truths is said of all of them together, where there is one
+pub alike-says : (p : Seen) (a b : Bool) → Says p a → Says p b → Says p (a && b)
+unfolding Says
+alike-says Yes a b x y = and-eq-true-iff a b .1 (x, y)
+alike-says No a b x y = rw x
+alike-says (Unsure v) a b x y = tt
+
+pub all-pass-says : {A : Type 0} (p : Seen) (test : A → Bool) (xs : List A) (x : A) → Member x xs → ((y : A) → Member y xs → Says p (test y))
+    → Says p (allPass test xs)
+unfolding Says
+all-pass-says Yes test xs x m h = all-pass-each test xs h
+all-pass-says No test xs x m h = all-pass-fails test xs x m (h x m)
+all-pass-says (Unsure v) test xs x m h = tt
 
 pub either-says : (p q : Seen) (a b : Bool) → Says p a → Says q b → Says (eitherOf p q) (a || b)
 unfolding eitherOf

@@ -4,16 +4,17 @@
 --     numbered, number                             each number below that has a state, and each state such a number: they determine each other (C4.5)
 --     state-zero, next                             the first state, and the move forward from any but the last to the one numbered one higher (C4.4, C4.6)
 --     start-fits, claimed-fits, assertion-fits     in every state the start, each expression of the property and each node's assertion can be evaluated
---     transition-fits                              so can each transition's guard and assigned values
+--     transition-fits                              so can each transition's guard and updates
 --     number-lies                                  and each number in them is worth something in its interval (C3.6)
---     assignments-all                              its assignments are all that reading found, each with its variable and its value in the state (C5.1)
---     assignments-variables, assignments-once      they are to the variables that reading lists, to none twice (C1.9)
---     successor-value, successor-rest              its successor has the assigned values, and the others as they were
---     successor-within                             the successor of an enabled transition at a state is a state
+--     updates-all                                  its updates are all that reading found, each with its variable and its values in the state (C5.1)
+--     updates-variables, updates-once              they set the variables that reading lists, none twice (C1.17)
+--     successor-value, successor-rest              a successor has values of its updates, and the others as they were
+--     successor-any                                and whatever has, is one
 -- Assumes nothing.
-use mathlib.Core.Path.{_≡_, refl}
+use mathlib.Core.Path.{_≡_, refl, sym, _∙_}
+use mathlib.Core.Logic.{⊎-elim}
 use mathlib.Core.List.{List}
-use mathlib.Core.Bool.{true}
+use mathlib.Core.Bool.{true, false≢true}
 use Prim.Native.Nat.{ℕ, zero, suc, _+_, _/_, _<_, _≤_}
 use native.Mathlib.Omega.{arith}
 use lib.IntN.{ℤ, pos}
@@ -21,14 +22,16 @@ use lib.ListN.{length, getD}
 use Rattle.integers.specs.declared.Interval.{Interval}
 use Rattle.integers.specs.Inside.{In}
 use Rattle.shapes.specs.declared.Outline.{Outline}
-use Rattle.records.specs.Record.{valueB, valueC}
+use lib.Signed.{_≤ℤ_, ≤ℤ-refl}
+use Rattle.integers.proofs.Laws.Parts.{ints}
+use Rattle.records.specs.Record.{fieldA, valueB, valueC}
 use Rattle.records.specs.Kind.{number as numberSort, truth as truthSort}
 use Rattle.sections.specs.Section.{expressionsOf}
 use Rattle.shapes.specs.declared.Reading.{Reading}
 use Rattle.intervals.specs.Interval.{interval}
 use Rattle.reading.specs.Read.{readOf}
 use Rattle.intervals.specs.Expression.{Expression}
-use Rattle.reading.specs.Readable.{Assignments, Transition}
+use Rattle.reading.specs.Readable.{Update, Updates, Transition}
 use Rattle.reading.proofs.Laws.Readable as readable
 use Rattle.expressions.specs.Expression.{partAt, number as worth}
 use Rattle.expressions.specs.Fits.{Fits}
@@ -37,29 +40,34 @@ use Rattle.ranges.specs.Range.{lowsOf, highsOf}
 use Rattle.ranges.specs.State.{State}
 use Rattle.states.specs.Number.{countOf, stateOf, numberOf}
 use Rattle.states.specs.Advance.{advanceOf}
-use Rattle.evaluating.specs.declared.Assignment.{Assignment}
-use Rattle.evaluating.specs.Transition.{assignmentList}
-use Rattle.evaluating.specs.Step.{successorOf, enabledOf}
-use Rattle.evaluating.specs.Fits.{AssignmentsFit, TransitionFits}
+use Rattle.evaluating.specs.declared.Update.{Update as Updating}
+use Rattle.evaluating.specs.Transition.{updateList}
+use Rattle.evaluating.specs.Step.{lowestOf, highestOf}
+use Rattle.evaluating.specs.Fits.{UpdateFits, UpdatesFit, TransitionFits}
 use Rattle.expressions.proofs.Laws.Sound.{expression-fits, number-in}
 use Rattle.expressions.proofs.Laws.Part.{behind-end}
-use Rattle.states.proofs.Laws.State.{within-at, within-length}
+use Rattle.states.specs.State.{Within}
+use Rattle.states.proofs.Laws.State.{within-at, at-within, within-length}
 use Rattle.ranges.proofs.Laws.Range.{ends-length, ends-at, ranges-file}
 use Rattle.states.proofs.Laws.Number.{number-below, state-of-number, number-of-state, state-within, first-state, advance-next}
-use Rattle.evaluating.proofs.Laws.Transition.{list-from, variables, Unassigned, Once, AssignedIn, assigned-value, assigned-rest}
-use Rattle.evaluating.proofs.Laws.Transition.{found, list-found, found-variables, found-once, found-named}
-use Rattle.evaluating.proofs.Laws.Step.{successor-assigned, successor-state}
+use Rattle.evaluating.proofs.Laws.Transition.{list-from, variables, Unset, Once, SetIn, updated-value, updated-rest, set-or-not, updated-length}
+use Rattle.evaluating.proofs.Laws.Transition.{found, found-is, list-found, found-variables, found-once, found-named}
+use Rattle.evaluating.proofs.Laws.Step.{lowest-is, highest-is}
 
--- ---- a transition's assignments
-module _ (file : List ℕ) (vars end : ℕ) where
-  assignments-fit : (state : List ℤ) → vars ≤ 12
-      → ((at mid : ℕ) (i : Interval) → Expression file vars 16 numberSort at mid i → Fits 16 numberSort (partAt file at) state)
-      → (n at : ℕ) {vs : List ℕ} → Assignments file vars end at vs → AssignmentsFit file n at state
-  unfolding AssignmentsFit
-  assignments-fit state most fits zero at h = tt
-  assignments-fit state most fits (suc n) at (Assignments.none e) = λ k. let z : _≡_ {A = ℕ} 0 1 = cc in absurd (omega arith)
-  assignments-fit state most fits (suc n) at (Assignments.more {mid = mid} {i = i} e l x rest apart) =
-      λ k. (omega arith, fits (at + 1) mid i x, rw (behind-end x) (assignments-fit state most fits n mid rest))
+-- ---- a transition's updates
+module _ (file : List ℕ) (vars end : ℕ) (state : List ℤ) (most : vars ≤ 12)
+    (fits : (at mid : ℕ) (i : Interval) → Expression file vars 16 numberSort at mid i → Fits 16 numberSort (partAt file at) state) where
+  update-fits : {at mid : ℕ} → fieldA file at < vars → Update file vars at mid → UpdateFits file at state
+  update-fits {at} {mid} l (Update.assigns {i = i} k x) =
+      record { named = omega arith; value = λ z. fits (at + 1) mid i x; ordered = λ z. absurd (false≢true (sym k ∙ z)) }
+  update-fits l (Update.picks k o low high) = record { named = omega arith; value = λ z. absurd (false≢true (sym z ∙ k)); ordered = λ z. o }
+
+  updates-fit : (n at : ℕ) {vs : List ℕ} → Updates file vars end at vs → UpdatesFit file n at state
+  unfolding UpdatesFit
+  updates-fit zero at h = tt
+  updates-fit (suc n) at (Updates.none e) = λ k. absurd (false≢true (sym e ∙ k))
+  updates-fit (suc n) at (Updates.more {mid = mid} e l x rest apart) =
+      λ k. let f = found-is file vars end state x in (update-fits l x, rw (f .0, f .1) (updates-fit n mid rest))
 
 module _ (file : List ℕ) (o : Outline) (r : readOf file ≡ Reading.Found o) where
   most : o .vars ≤ 12
@@ -116,39 +124,66 @@ module _ (file : List ℕ) (o : Outline) (r : readOf file ≡ Reading.Found o) w
     pub transition-fits : (t : ℕ) (l : t < o .transitions) → TransitionFits file (readable.transition file o r t l .place) state
     transition-fits t l =
         let x = readable.transition file o r t l in
-        let values = assignments-fit file (o .vars) (x .end) state most (fits numberSort) (length file / 8) (x .behind) (x .assignments) in
-        record { guard = fits _ _ _ _ (x .guard); assignments = rw (behind-end (x .guard)) values }
+        let values = updates-fit file (o .vars) (x .end) state most (fits numberSort) (length file / 8) (x .behind) (x .updates) in
+        record { guard = fits _ _ _ _ (x .guard); updates = rw (behind-end (x .guard)) values }
 
-    -- ---- a transition's assignments: all that reading found, to no variable twice
+    -- ---- a transition's updates: all that reading found, of no variable twice
     module _ (t : ℕ) (l : t < o .transitions) where
       abbrev here : Transition file o t
       here = readable.transition file o r t l
 
-      abbrev list : List Assignment
-      list = assignmentList file (here .place) state
+      abbrev list : List Updating
+      list = updateList file (here .place) state
 
-      pub assignments-all : list ≡ found (here .assignments) state
-      assignments-all =
+      pub updates-all : list ≡ found (here .updates) state
+      updates-all =
           rw (list-from file (here .place) state, behind-end (here .guard))
-          (list-found file (o .vars) (here .end) state (length file / 8) (here .behind) (here .assignments) (omega arith))
+          (list-found file (o .vars) (here .end) state (length file / 8) (here .behind) (here .updates) (omega arith))
 
-      pub assignments-variables : variables list ≡ here .assigned
-      assignments-variables = rw assignments-all (found-variables file (o .vars) (here .end) state (here .behind) (here .assignments))
+      pub updates-variables : variables list ≡ here .sets
+      updates-variables = rw updates-all (found-variables file (o .vars) (here .end) state (here .behind) (here .updates))
 
-      pub assignments-once : Once list
-      assignments-once = rw assignments-all (found-once file (o .vars) (here .end) state (here .behind) (here .assignments))
+      pub updates-once : Once list
+      updates-once = rw updates-all (found-once file (o .vars) (here .end) state (here .behind) (here .updates))
 
-      -- ---- its successor, variable by variable
-      pub successor-value : (v : ℕ) (x : ℤ) → AssignedIn v x list → getD (successorOf file (here .place) state) v (pos 0) ≡ x
-      successor-value v x a =
-          let m = most in
-          let named = found-named file (o .vars) (here .end) state v x (here .behind) (here .assignments) (rw assignments-all at a) in
-          let there : v < length state = omega (arith, within-length s .0, ends-length file (o .vars) 2) in
-          rw (successor-assigned file (here .place) state) (assigned-value v x list state there assignments-once a)
+      -- ---- its successors, variable by variable: what lies between the ends
+      abbrev Between : List ℤ → Type 0
+      Between next = Within (lowestOf file (here .place) state) (highestOf file (here .place) state) next
 
-      pub successor-rest : (v : ℕ) → Unassigned v list → getD (successorOf file (here .place) state) v (pos 0) ≡ getD state v (pos 0)
-      successor-rest v u = rw (successor-assigned file (here .place) state) (assigned-rest v list state u)
+      module _ (v : ℕ) where
+        ends-value : (x y : ℤ) → SetIn v x y list
+            → (getD (lowestOf file (here .place) state) v (pos 0) ≡ x) × (getD (highestOf file (here .place) state) v (pos 0) ≡ y)
+        ends-value x y a =
+            let m = most in
+            let named = found-named file (o .vars) (here .end) state v x y (here .behind) (here .updates) (rw updates-all at a) in
+            let there : v < length state = omega (arith, within-length s .0, ends-length file (o .vars) 2) in (
+              rw (lowest-is file (here .place) state) (updated-value (λ u. u .low) v x y x (λ u p q. p) list state there updates-once a),
+              rw (highest-is file (here .place) state) (updated-value (λ u. u .high) v x y y (λ u p q. q) list state there updates-once a),
+            )
 
-    -- ---- the successor
-    pub successor-within : (at : ℕ) → enabledOf lows highs file at state ≡ true → State file (o .vars) (successorOf file at state)
-    successor-within at e = successor-state lows highs file at state e s
+        ends-rest : Unset v list → (getD (lowestOf file (here .place) state) v (pos 0) ≡ getD state v (pos 0))
+            × (getD (highestOf file (here .place) state) v (pos 0) ≡ getD state v (pos 0))
+        ends-rest u = (
+          rw (lowest-is file (here .place) state) (updated-rest (λ u. u .low) v list state u),
+          rw (highest-is file (here .place) state) (updated-rest (λ u. u .high) v list state u),
+        )
+
+        pub successor-value : (x y : ℤ) → SetIn v x y list → {next : List ℤ} → Between next → (x ≤ℤ getD next v (pos 0)) × (getD next v (pos 0) ≤ℤ y)
+        successor-value x y a b = let e = ends-value x y a in let w = within-at b v in (rw (e .0) at (w .0), rw (e .1) at (w .1))
+
+        pub successor-rest : Unset v list → {next : List ℤ} → Between next → getD next v (pos 0) ≡ getD state v (pos 0)
+        successor-rest u b =
+            let e = ends-rest u in
+            let w = within-at b v in
+            omega (ints, w .0, w .1, e .0, e .1)
+
+      pub successor-any : (next : List ℤ) → length next ≡ length state
+          → ((v : ℕ) (x y : ℤ) → SetIn v x y list → (x ≤ℤ getD next v (pos 0)) × (getD next v (pos 0) ≤ℤ y))
+          → ((v : ℕ) → Unset v list → getD next v (pos 0) ≡ getD state v (pos 0)) → Between next
+      successor-any next n set rest =
+          at-within (lowestOf file (here .place) state) (highestOf file (here .place) state) next
+          (rw (lowest-is file (here .place) state) (updated-length (λ u. u .low) list state))
+          (rw (highest-is file (here .place) state) (updated-length (λ u. u .high) list state)) n
+          (λ v below. ⊎-elim
+          (λ a. let e = ends-value v (a .0) (a .1) (a .2) in let w = set v (a .0) (a .1) (a .2) in (rw (e .0) (w .0), rw (e .1) (w .1)))
+          (λ u. let e = ends-rest v u in (rw (e .0, rest v u) (≤ℤ-refl _), rw (e .1, rest v u) (≤ℤ-refl _))) (set-or-not v list))

@@ -1,76 +1,81 @@
--- A transition's assignments, one after the other. Assumes nothing.
-use mathlib.Core.Path.{_≡_, refl}
+-- A transition's updates, one after the other. Assumes nothing.
+use mathlib.Core.Path.{_≡_, refl, sym}
 use mathlib.Core.List.{List, []}
 use mathlib.Core.Bool.{true, false}
 use Prim.Native.Nat.{ℕ, suc, _+_, _/_, _<_}
 use lib.IntN.{ℤ}
 use lib.ListN.{length, set}
-use Rattle.records.specs.Record.{kindIs}
-use Rattle.evaluating.specs.declared.Assignment.{Assignment}
-use Rattle.evaluating.specs.declared.Assigned.{Assigned}
+use Rattle.sections.specs.Section.{isUpdate}
+use Rattle.evaluating.specs.declared.Update.{Update}
+use Rattle.evaluating.specs.declared.Updated.{Updated}
 use Rattle.evaluating.specs.declared.Stepped.{Stepped}
 use Rattle.expressions.specs.Expression.{behind}
-use Rattle.evaluating.specs.Transition.{assignmentAt, assignmentsFrom, inRangeOf, allInRange, assigned, assignmentList}
-use Rattle.evaluating.specs.Step.{guardOf, enabledOf, successorOf, assignOf, stepOf}
-use Rattle.evaluating.specs.Fits.{AssignmentsFit}
-use Rattle.evaluating.proofs.Laws.Transition.{list-end, list-none, list-more, fits-more}
+use Rattle.evaluating.specs.Transition.{updateAt, updatesFrom, inRangeOf, allInRange, updated, lowest, highest, updateList}
+use Rattle.evaluating.specs.Step.{guardOf, enabledOf, lowestOf, highestOf, updatedBy, stepOf}
+use Rattle.evaluating.specs.Fits.{UpdatesFit}
+use Rattle.evaluating.proofs.Laws.Transition.{list-end, list-none, list-more, fits-more, update-variable}
 
--- ---- in the loop: what is left to do to `next` gives what all the assignments do to `state`
-module _ (lows highs : List ℤ) (file : List ℕ) (state : List ℤ) (all : List Assignment) where
-  pub record Left (next : List ℤ) (at left : ℕ) : Type 0 where
-    pub fit : AssignmentsFit file left at state
-    pub range : allInRange lows highs (assignmentsFrom file left at state) ≡ allInRange lows highs all
-    pub result : assigned (assignmentsFrom file left at state) next ≡ assigned all state
+-- ---- in the loop: what is left to do to `low` and `high` gives what all the updates do to `state`
+module _ (lows highs : List ℤ) (file : List ℕ) (state : List ℤ) (all : List Update) where
+  pub record Left (low high : List ℤ) (at left : ℕ) : Type 0 where
+    pub fit : UpdatesFit file left at state
+    pub range : allInRange lows highs (updatesFrom file left at state) ≡ allInRange lows highs all
+    pub low-end : lowest (updatesFrom file left at state) low ≡ lowest all state
+    pub high-end : highest (updatesFrom file left at state) high ≡ highest all state
 
-  module _ {next : List ℤ} {at left : ℕ} (l : Left next at left) where
-    done : assignmentsFrom file left at state ≡ [] → _≡_ {A = Assigned} (record { fits = true; next = next }) (assignOf lows highs all state)
-    unfolding assignOf allInRange assigned
-    done e = rw (← (rw e at (l .range)), ← (rw e at (l .result)))
+  module _ {low high : List ℤ} {at left : ℕ} (l : Left low high at left) where
+    done : updatesFrom file left at state ≡ [] → _≡_ {A = Updated} (record { fits = true; low = low; high = high }) (updatedBy lows highs all state)
+    unfolding updatedBy allInRange updated
+    done e = rw (← (rw e at (l .range)), ← (rw e at (l .low-end)), ← (rw e at (l .high-end)))
 
-    pub left-none : kindIs file 0x04 at ≡ false → _≡_ {A = Assigned} (record { fits = true; next = next }) (assignOf lows highs all state)
+    pub left-none : isUpdate file at ≡ false → _≡_ {A = Updated} (record { fits = true; low = low; high = high }) (updatedBy lows highs all state)
     left-none e = done (list-none file at state left e)
 
-    pub left-end : left ≡ 0 → _≡_ {A = Assigned} (record { fits = true; next = next }) (assignOf lows highs all state)
+    pub left-end : left ≡ 0 → _≡_ {A = Updated} (record { fits = true; low = low; high = high }) (updatedBy lows highs all state)
     left-end e = done (rw (e, list-end))
 
-    module _ (n : ℕ) (is : left ≡ suc n) (e : kindIs file 0x04 at ≡ true) {a : Assignment} (found : a ≡ assignmentAt file at state) where
-      pub left-out : inRangeOf lows highs (a .variable) (a .value) ≡ false
-          → _≡_ {A = Assigned} (record { fits = false; next = state }) (assignOf lows highs all state)
-      unfolding assignOf allInRange
-      left-out o =
-          let r : false ≡ allInRange lows highs all = rw (list-more file at state is e, ← found, o) at (l .range) in
-          rw (← r)
+    module _ (n : ℕ) (is : left ≡ suc n) (e : isUpdate file at ≡ true) {u : Update} (found : u ≡ updateAt file at state) where
+      out : allInRange lows highs all ≡ false → _≡_ {A = Updated} (record { fits = false; low = state; high = state }) (updatedBy lows highs all state)
+      unfolding updatedBy
+      out r = rw r
 
-      end-is : a .end ≡ behind file (at + 1)
-      unfolding assignmentAt
-      end-is = rw found
+      pub left-low : inRangeOf lows highs (u .variable) (u .low) ≡ false
+          → _≡_ {A = Updated} (record { fits = false; low = state; high = state }) (updatedBy lows highs all state)
+      unfolding allInRange
+      left-low o = out (sym (rw (list-more file at state is e, ← found, o) at (l .range)))
 
-      pub left-variable : a .variable < 12
-      unfolding assignmentAt
-      left-variable = rw found (fits-more file at state is e (l .fit) .0)
+      pub left-high : inRangeOf lows highs (u .variable) (u .low) ≡ true → inRangeOf lows highs (u .variable) (u .high) ≡ false
+          → _≡_ {A = Updated} (record { fits = false; low = state; high = state }) (updatedBy lows highs all state)
+      unfolding allInRange
+      left-high i o = out (sym (rw (list-more file at state is e, ← found, i, o) at (l .range)))
 
-      pub left-more : inRangeOf lows highs (a .variable) (a .value) ≡ true → Left (set next (a .variable) (a .value)) (a .end) n
-      unfolding allInRange assigned
-      left-more i =
+      pub left-variable : u .variable < 12
+      left-variable = rw (found, update-variable file at state) (fits-more file at state is e (l .fit) .0 .named)
+
+      pub left-more : inRangeOf lows highs (u .variable) (u .low) ≡ true → inRangeOf lows highs (u .variable) (u .high) ≡ true
+          → Left (set low (u .variable) (u .low)) (set high (u .variable) (u .high)) (u .end) n
+      unfolding allInRange updated
+      left-more i j =
           record {
-            fit = rw end-is (fits-more file at state is e (l .fit) .2);
-            range = rw end-is (rw (list-more file at state is e, ← found, i) at (l .range));
-            result = rw end-is (rw (list-more file at state is e, ← found) at (l .result));
+            fit = rw found (fits-more file at state is e (l .fit) .1);
+            range = rw (list-more file at state is e, ← found, i, j) at (l .range);
+            low-end = rw (list-more file at state is e, ← found) at (l .low-end);
+            high-end = rw (list-more file at state is e, ← found) at (l .high-end);
           }
 
-pub left-begins : (lows highs : List ℤ) (file : List ℕ) (state : List ℤ) (n first : ℕ) → AssignmentsFit file n first state
-    → Left lows highs file state (assignmentsFrom file n first state) state first n
-left-begins lows highs file state n first h = record { fit = h; range = refl; result = refl }
+pub left-begins : (lows highs : List ℤ) (file : List ℕ) (state : List ℤ) (n first : ℕ) → UpdatesFit file n first state
+    → Left lows highs file state (updatesFrom file n first state) state state first n
+left-begins lows highs file state n first h = record { fit = h; range = refl; low-end = refl; high-end = refl }
 
--- ---- the step: the guard, then the assignments
+-- ---- the step: the guard, then the updates
 module _ (lows highs : List ℤ) (file : List ℕ) (at : ℕ) (state : List ℤ) where
   pub step-off : guardOf file at state ≡ false
-      → _≡_ {A = Stepped} (record { guard = false; enabled = false; next = state }) (stepOf lows highs file at state)
+      → _≡_ {A = Stepped} (record { guard = false; enabled = false; low = state; high = state }) (stepOf lows highs file at state)
   unfolding stepOf enabledOf
   step-off e = rw e
 
-  pub step-on : guardOf file at state ≡ true → {a : Assigned}
-      → a ≡ assignOf lows highs (assignmentsFrom file (length file / 8) (behind file (at + 1)) state) state
-      → _≡_ {A = Stepped} (record { guard = true; enabled = a .fits; next = a .next }) (stepOf lows highs file at state)
-  unfolding stepOf enabledOf successorOf assignOf assignmentList
+  pub step-on : guardOf file at state ≡ true → {a : Updated}
+      → a ≡ updatedBy lows highs (updatesFrom file (length file / 8) (behind file (at + 1)) state) state
+      → _≡_ {A = Stepped} (record { guard = true; enabled = a .fits; low = a .low; high = a .high }) (stepOf lows highs file at state)
+  unfolding stepOf enabledOf lowestOf highestOf updatedBy updateList
   step-on e is = rw (e, is)

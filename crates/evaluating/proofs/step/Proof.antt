@@ -1,4 +1,4 @@
--- `evaluating::step`: a guard that is false ends it; behind one that is true the assignments decide. Assumes nothing.
+-- `evaluating::step`: a guard that is false ends it; behind one that is true the updates decide. Assumes nothing.
 use mathlib.Core.Path.{sym, _∙_}
 use Prim.Native.Nat.{_+_, _*_, _≤_}
 use native.Mathlib.Omega.{arith}
@@ -43,29 +43,29 @@ returns c = let s = c .before .before .before .before in
     step-off _ _ _ _ _
     ((rw (take-rest (8 * (s .args .at + 1)) (s .args .file .now)) at (sym (c .before .truth-at .ensures))) ∙ not-true _ (c .if1 .taken))
 
-mul-assign : tie.Need-mul-assign
-mul-assign c = omega (arith, here (c .before .before .before .before))
+mul-updates : tie.Need-mul-updates
+mul-updates c = omega (arith, here (c .before .before .before .before))
 
-element-copy-out-assign : tie.Need-element-copy-out-assign
-element-copy-out-assign c = let s = c .before .before .before .before in entry _ _ (s .pre .0) truthSort (s .args .at + 1) _ (s .pre .1 .guard)
+element-copy-out-updates : tie.Need-element-copy-out-updates
+element-copy-out-updates c = let s = c .before .before .before .before in entry _ _ (s .pre .0) truthSort (s .args .at + 1) _ (s .pre .1 .guard)
 
-cast-assign : tie.Need-cast-assign
-cast-assign c = let s = c .before .before .before .before .before in omega (arith, here s, end s)
+cast-updates : tie.Need-cast-updates
+cast-updates c = let s = c .before .before .before .before .before in omega (arith, here s, end s)
 
-add-assign : tie.Need-add-assign
-add-assign c = let s = c .before .before .before .before .before in omega (arith, here s, end s)
+add-updates : tie.Need-add-updates
+add-updates c = let s = c .before .before .before .before .before in omega (arith, here s, end s)
 
-assign-requires : tie.Need-assign-requires
-assign-requires c κs = let s = c .before .before .before .before .before in
-    (s .pre .0, rw (behind-is _ _ (s .pre .0) truthSort (s .args .at + 1) _ (s .pre .1 .guard)) (s .pre .1 .assignments))
+updates-requires : tie.Need-updates-requires
+updates-requires c κs = let s = c .before .before .before .before .before in
+    (s .pre .0, rw (behind-is _ _ (s .pre .0) truthSort (s .args .at + 1) _ (s .pre .1 .guard)) (s .pre .1 .updates))
 
 returns-2 : tie.Need-returns-2
 unfolding guardOf
-returns-2 c = let s = c .before .before .before .before .before .before .before in
+returns-2 c =
+    let s = c .before .before .before .before .before .before .before .before in
     step-on _ _ _ _ _
-    ((rw (take-rest (8 * (s .args .at + 1)) (s .args .file .now)) at (sym (c .before .before .before .before .truth-at .ensures))) ∙ not-false _
-    (c .before .before .before .if1 .left))
-    (rw (behind-is _ _ (s .pre .0) truthSort (s .args .at + 1) _ (s .pre .1 .guard)) at (c .before .assign .ensures))
+    ((rw (take-rest (8 * (s .args .at + 1)) (s .args .file .now)) at (sym (c .before .before .before .before .before .truth-at .ensures))) ∙ not-false _ (c .before .before .before .before .if1 .left))
+    (rw (behind-is _ _ (s .pre .0) truthSort (s .args .at + 1) _ (s .pre .1 .guard)) at (c .before .before .updates .ensures))
 
 pub step-spec : {M : Type 1} → statement M
 step-spec =
@@ -78,9 +78,9 @@ step-spec =
     part-truth-at-end
     truth-at-requires
     returns
-    mul-assign
-    element-copy-out-assign
-    cast-assign
-    add-assign
-    assign-requires
+    mul-updates
+    element-copy-out-updates
+    cast-updates
+    add-updates
+    updates-requires
     returns-2)

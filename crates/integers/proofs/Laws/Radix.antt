@@ -29,6 +29,13 @@ module _ (low : ℤ) where
   unfolding at
   offset-self = let e : at low 0 ≡ low = omega (ints, add-parts low (pos 0)) in rw e at (offset-at 0)
 
+  pub offset-swap : (v : ℤ) → offsetOf v low ≡ offsetOf low v
+  unfolding offsetOf
+  offset-swap v =
+      let y = low -ℤ v in
+      let z = v -ℤ low in
+      omega (ints, sub-parts v low, sub-parts low v, abs-parts y, one-part y, abs-parts z, one-part z)
+
   -- the next value is one further from the low end
   pub offset-next : (v : ℤ) → low ≤ℤ v → offsetOf low (v +ℤ pos 1) ≡ offsetOf low v + 1
   unfolding at

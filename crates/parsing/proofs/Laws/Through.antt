@@ -1,7 +1,7 @@
 -- What is carried from record to record through a file that parses: P holds at the first record; past a record that begins an item it goes on holding,
 -- and so it does past a whole expression.
 --     at-start, at-transitions, at-claims, at-nodes, at-end     where it then holds: at each section
---     transition-through, node-through                          and past each transition and each node
+--     update-through, transition-through, node-through          and past each update, each transition and each node
 -- Assumes nothing.
 use mathlib.Core.Path.{_≡_}
 use mathlib.Core.Bool.{true}
@@ -14,10 +14,11 @@ use Rattle.shapes.specs.declared.Outline.{Outline}
 use Rattle.records.specs.Record.{kindIs}
 use Rattle.records.specs.Kind.{none, number, truth, signatureOf}
 use Rattle.records.specs.Walk.{walkOf, truthOf}
-use Rattle.sections.specs.Section.{transitionOf, expressionsOf, nodeOf}
+use Rattle.sections.specs.Section.{isUpdate, updateOf, transitionOf, expressionsOf, nodeOf}
 use Rattle.records.proofs.Laws.Kind.{head-none}
-use Rattle.sections.proofs.Laws.Section.{sequence-through, assignments-through, transition-opens, node-opens}
+use Rattle.sections.proofs.Laws.Section.{sequence-through, update-assigns, pick-ends, assignment-ends, updates-through, transition-opens, node-opens}
 use Rattle.sections.proofs.Laws.Counted.{variables-through, transitions-through, nodes-through, edges-through}
+use Rattle.truths.proofs.Laws.Truth.{by-test}
 use Rattle.parsing.proofs.Laws.Outline.{Parses}
 
 -- what is carried past a record that begins an item, and past an expression
@@ -33,11 +34,17 @@ module _ (file : List ℕ) (vars : ℕ) (P : ℕ → Type 0) (head : PastHead fi
       → walkOf file vars 16 want (at + 1) ≡ End end → P at → P end
   item-through kind want at end u some k w p = expression want (at + 1) end some w (head kind at u k p)
 
+  -- an update: a pick is such a record alone
+  pub update-through : (at end : ℕ) → isUpdate file at ≡ true → updateOf file vars at ≡ End end → P at → P end
+  update-through at end u e p =
+      by-test (kindIs file 0x08 at) (λ b. P end)
+      (λ k. rw (pick-ends file vars at k e) (head 0x08 at (head-none (omega arith)) k p))
+      (λ k. item-through 0x04 number at end (head-none (omega arith)) (λ z. omega arith) (update-assigns file vars at u k) (assignment-ends file vars at k e) p)
+
   pub transition-through : (end at : ℕ) → kindIs file 0x03 at ≡ true → transitionOf file vars at ≡ End end → P at → P end
   transition-through end at k e p =
       let t = transition-opens file vars end at e in
-      assignments-through file vars end P (λ i x. item-through 0x04 number i x (head-none (omega arith)) (λ z. omega arith))
-      12 (replicate 12 0) (t .place) (t .assigns)
+      updates-through file vars end P update-through 12 (replicate 12 0) (t .place) (t .updates)
       (item-through 0x03 truth at (t .place) (head-none (omega arith)) (λ z. omega arith) k (t .guard) p)
 
   pub node-through : (ranks end at : ℕ) → kindIs file 0x06 at ≡ true → nodeOf file vars ranks at ≡ End end → P at → P end

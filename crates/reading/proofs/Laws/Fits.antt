@@ -8,20 +8,18 @@ use Rattle.records.specs.Kind.{truth}
 use Rattle.records.proofs.Laws.Walk.{walk-bound}
 use Rattle.records.proofs.Laws.Record.{kind-is}
 use Rattle.parsing.proofs.Laws.Outline.{Parses}
-use Rattle.parsing.proofs.Laws.Parsed.{variables-most, variable-range, transitions-most, nodes-most, edges-end, edge-names}
-use Rattle.reading.specs.Fits.{VariablesFit, OutlineFits}
+use Rattle.parsing.proofs.Laws.Parsed.{variables-most, transitions-most, nodes-most, edges-end, edge-names}
+use Rattle.reading.specs.Fits.{OutlineFits}
 
 module _ (file : List ℕ) (o : Outline) (p : Parses file o) where
-  pub ranges : VariablesFit file (o .vars)
-  ranges = let s = kind-is file 0x02 (o .vars) (p .start-named) .0 in record { here = omega arith; ordered = variable-range file o p }
-
   pub fits : OutlineFits file o
   fits =
+      let s = kind-is file 0x02 (o .vars) (p .start-named) .0 in
       let q = kind-is file 0x05 (o .property) (p .property-named) .0 in
       let e = edges-end file o p in
       record {
         vars-most = variables-most file o p;
-        ranges = ranges;
+        variables-here = omega arith;
         transition-here = walk-bound file (o .vars) 16 truth (o .vars + 1) (o .transition) (p .start) .1;
         transitions-most = transitions-most file o p;
         property-here = omega arith;

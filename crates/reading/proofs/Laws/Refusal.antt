@@ -3,9 +3,11 @@
 --     read-refuses     of the whole file (C11.7)
 -- Assumes nothing.
 use mathlib.Core.Path.{_≡_, refl}
-use mathlib.Core.Bool.{Bool}
+use mathlib.Core.Bool.{Bool, cond}
 use mathlib.Core.List.{List}
-use Prim.Native.Nat.{ℕ, zero, suc, _+_, _-_, _*_, _≤_}
+use Prim.Native.Nat.{ℕ, zero, suc, _+_, _-_, _*_, _/_, _≤_}
+use lib.ListN.{length}
+use Rattle.records.specs.Record.{kindIs}
 use native.Mathlib.Omega.{arith}
 use lib.Dec.{leb}
 use Rattle.records.specs.declared.walk.Walked.{Walked}
@@ -18,6 +20,9 @@ use Rattle.shapes.specs.declared.Reading.{Reading}
 use Rattle.shapes.specs.Reading.{andFound}
 use Rattle.records.specs.Walk.{refuseFirst}
 use Rattle.reading.specs.States.{sizeAt, statesOf}
+use Rattle.reading.specs.Picks.{picksAt, pastRecord, picksFrom, picksOf}
+use Rattle.reading.specs.declared.product.Combined.{Combined}
+use Rattle.truths.proofs.Laws.Truth.{by-test}
 use Rattle.intervals.specs.Interval.{intervalsOf}
 use Rattle.shapes.proofs.Laws.Property.{from-most}
 use Rattle.sections.specs.Section.{claimAt, propertyAt}
@@ -39,6 +44,21 @@ module _ {most : ℕ} where
       let next = product * sizeAt file at in
       test-refuses (leb next 1048576) (λ h. states-refuses file left (at + 1) next (omega arith)) (λ h. refused walked 7 at (omega arith) (omega arith))
 
+  -- the place is a record that was met
+  past-place : (file : List ℕ) (at : ℕ) (p : Combined) → at ≤ most → p .place ≤ most → pastRecord file at p .place ≤ most
+  unfolding pastRecord
+  past-place file at p l m =
+      by-test (kindIs file 0x03 at) (λ b. cond b (picksAt at 1) (cond (kindIs file 0x08 at) (picksAt (p .place) (p .product * sizeAt file at)) p) .place ≤ most)
+      (λ h. l) (λ h. by-test (kindIs file 0x08 at) (λ b. cond b (picksAt (p .place) (p .product * sizeAt file at)) p .place ≤ most) (λ k. m) (λ k. m))
+
+  picks-refuse : (file : List ℕ) (left at : ℕ) (p : Combined) → at + left ≤ most → p .place ≤ most → Refuses Walked.Refused most (picksFrom file left at p)
+  unfolding picksFrom
+  picks-refuse file zero at p l m = walked-ends
+  picks-refuse file (suc left) at p l m =
+      let q = pastRecord file at p in
+      let n = past-place file at p (omega arith) m in
+      test-refuses (leb (q .product) 4096) (λ f. picks-refuse file left (at + 1) q (omega arith) n) (λ f. refused walked 22 (q .place) (omega arith) n)
+
 -- ---- the stages
 abbrev Right : Reading → Type 0
 Right = Refuses Reading.Refused 4096
@@ -59,13 +79,14 @@ module _ (file : List ℕ) (o : Outline) (p : Parses file o) where
       test-refuses (p .doubles) (λ c. row-refuses 10 (omega arith) (doubledOf file o) (o .nodes - p .from) (p .from) (omega arith)) (λ c. walked-ends)
 
   stages-refuse : Right (stagesRead file o)
-  unfolding stagesRead rulesOf
+  unfolding stagesRead rulesOf picksOf
   stages-refuse =
       let small = p .small in
       let f = fits file o p in
       let here = f .edges-here in
       let vars = f .vars-most in
       walk-then (statesOf file (o .vars) 0 1) (states-refuses file (o .vars) 0 1 (omega arith)) λ x e.
+      walk-then (picksOf file) (picks-refuse file (length file / 8) 0 (picksAt 0 1) (omega arith) (omega arith)) λ x e.
       walk-then (intervalsOf file) intervals-refuse λ x e.
       walk-then (rulesOf file o) (row-refuses 9 (omega arith) (ruleOf file o) (o .edges) (o .edge) (omega arith)) λ x e.
       walk-then (doublesOf file o) doubles-refuse λ x e.

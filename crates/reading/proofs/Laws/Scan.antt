@@ -15,14 +15,16 @@ use Rattle.shapes.specs.declared.Outline.{Outline}
 use Rattle.records.specs.Record.{fieldA, kindIs}
 use Rattle.records.specs.Kind.{none, number, truth, within, signatureOf}
 use Rattle.records.specs.Walk.{walkOf, truthOf}
-use Rattle.sections.specs.Section.{propertyAt, assignmentFields, transitionOf, expressionsOf, phasesOr}
+use Rattle.sections.specs.Section.{propertyAt, isUpdate, updateFields, updateOf, transitionOf, expressionsOf, phasesOr}
 use Rattle.records.proofs.Laws.Kind.{head-none}
-use Rattle.sections.proofs.Laws.Section.{sequence-reach, transition-just, assignment-named, assignments-induct, transition-opens, node-opens}
+use Rattle.truths.proofs.Laws.Truth.{by-test}
+use Rattle.sections.proofs.Laws.Section.{update-assigns, update-pick, update-named, pick-ends, assignment-ends, updates-induct}
+use Rattle.sections.proofs.Laws.Section.{sequence-reach, transition-just, transition-opens, node-opens}
 use Rattle.sections.proofs.Laws.Counted.{transitions-reach, nodes-reach}
 use Rattle.parsing.proofs.Laws.Parsed.{variables-most}
 use Rattle.parsing.proofs.Laws.Through as through
 use Rattle.intervals.specs.Expression.{Expression}
-use Rattle.reading.specs.Readable.{Start, Apart, Assignments, Transition, PropertyExpression, Node}
+use Rattle.reading.specs.Readable.{Start, Apart, Update, Updates, Transition, PropertyExpression, Node}
 use Rattle.intervals.proofs.Laws.Scan.{Scan, Tried, scan-begins, scan-head, scan-expression}
 use Rattle.reading.proofs.Laws.Stage.{Stages}
 
@@ -42,7 +44,7 @@ module _ (file : List ℕ) (last vars want at end : ℕ) (some : want ≡ none �
   passing : Scan file (Walked.End last) at → Passing file last vars want at end
   passing s = passing-by (scan-expression file (Walked.End last) vars want at end some w s)
 
--- ---- a transition's assignments
+-- ---- a transition's updates
 -- none of the variables is marked
 abbrev Unmarked : List ℕ → List ℕ → Type 0
 Unmarked marks [] = Unit {0}
@@ -57,36 +59,57 @@ apart marks a l (v ∷ vs) u =
     let other : a ≡ v → ⊥ = λ e. let z : _≡_ {A = ℕ} 0 1 = sym (u .0) ∙ ap (λ (x : ℕ). getD (set marks a 1) x 0) (sym e) ∙ marked in omega arith in
     ((other, r .0), (sym (getD-set-other marks a v 1 0 (λ e. other (sym e))) ∙ u .0, r .1))
 
+-- an update that the scan passed, and the scan behind it
+record PassingUpdate (file : List ℕ) (last vars at end : ℕ) : Type 0 where
+  update : Update file vars at end
+  rest : Scan file (Walked.End last) end
+
+passing-update : (file : List ℕ) (last vars at end : ℕ) → isUpdate file at ≡ true → updateFields file vars at ≡ true → updateOf file vars at ≡ Walked.End end
+    → Scan file (Walked.End last) at → PassingUpdate file last vars at end
+passing-update file last vars at end u f w s = by-test (kindIs file 0x08 at) (λ b. PassingUpdate file last vars at end) pick value
+  where
+    pick : kindIs file 0x08 at ≡ true → PassingUpdate file last vars at end
+    pick k =
+        let r = update-pick file vars at k f in
+        rw (pick-ends file vars at k w)
+        (record { update = Update.picks k (r .ordered) (r .low) (r .high); rest = scan-head file (Walked.End last) 0x08 at (head-none (omega arith)) k s })
+
+    value : kindIs file 0x08 at ≡ false → PassingUpdate file last vars at end
+    value k =
+        let head = scan-head file (Walked.End last) 0x04 at (head-none (omega arith)) (update-assigns file vars at u k) s in
+        let v = passing file last vars number (at + 1) end (λ z. omega arith) (assignment-ends file vars at k w) head in
+        record { update = Update.assigns k (v .expression); rest = v .rest }
+
 module _ (file : List ℕ) (last vars end : ℕ) where
-  record Assigned (marks : List ℕ) (at : ℕ) : Type 0 where
+  record Updated (marks : List ℕ) (at : ℕ) : Type 0 where
     variables : List ℕ
-    assignments : Assignments file vars end at variables
+    updates : Updates file vars end at variables
     unmarked : Unmarked marks variables
 
-  assigned-none : (marks : List ℕ) → kindIs file 0x04 end ≡ false → Assigned marks end
-  assigned-none marks k = record { variables = []; assignments = Assignments.none k; unmarked = tt }
+  updated-none : (marks : List ℕ) → isUpdate file end ≡ false → Updated marks end
+  updated-none marks k = record { variables = []; updates = Updates.none k; unmarked = tt }
 
-  assigned-more : (marks : List ℕ) (at x : ℕ) → kindIs file 0x04 at ≡ true → assignmentFields file vars at ≡ true → getD marks (fieldA file at) 0 ≡ 0
-      → walkOf file vars 16 number (at + 1) ≡ Walked.End x
-      → (vars ≤ length (set marks (fieldA file at) 1) → Scan file (Walked.End last) x → Assigned (set marks (fieldA file at) 1) x)
-      → vars ≤ length marks → Scan file (Walked.End last) at → Assigned marks at
-  assigned-more marks at x k f free w rest m s =
-      let v = passing file last vars number (at + 1) x (λ z. omega arith) w (scan-head file (Walked.End last) 0x04 at (head-none (omega arith)) k s) in
+  updated-more : (marks : List ℕ) (at x : ℕ) → isUpdate file at ≡ true → updateFields file vars at ≡ true → getD marks (fieldA file at) 0 ≡ 0
+      → updateOf file vars at ≡ Walked.End x
+      → (vars ≤ length (set marks (fieldA file at) 1) → Scan file (Walked.End last) x → Updated (set marks (fieldA file at) 1) x)
+      → vars ≤ length marks → Scan file (Walked.End last) at → Updated marks at
+  updated-more marks at x k f free w rest m s =
+      let v = passing-update file last vars at x k f w s in
       let r = rest (rw length-set m) (v .rest) in
-      let below = assignment-named file vars at f in
+      let below = update-named file vars at f in
       let a = apart marks (fieldA file at) (omega arith) (r .variables) (r .unmarked) in
       record {
         variables = fieldA file at ∷ r .variables;
-        assignments = Assignments.more k below (v .expression) (r .assignments) (a .0);
+        updates = Updates.more k below (v .update) (r .updates) (a .0);
         unmarked = (free, a .1);
       }
 
-  -- ---- a transition: its guard, then its assignments
+  -- ---- a transition: its guard, then its updates
   record Guarded (at : ℕ) : Type 0 where
     behind : ℕ
     interval : Interval
     guard : Expression file vars 16 truth (at + 1) behind interval
-    assigned : Assigned (replicate 12 0) behind
+    updated : Updated (replicate 12 0) behind
 
   guarded : vars ≤ 12 → (at : ℕ) → kindIs file 0x03 at ≡ true → transitionOf file vars at ≡ Walked.End end → Scan file (Walked.End last) at
       → Guarded at
@@ -94,9 +117,9 @@ module _ (file : List ℕ) (last vars end : ℕ) where
       let t = transition-opens file vars end at e in
       let head = scan-head file (Walked.End last) 0x03 at (head-none (omega arith)) k s in
       let g = passing file last vars truth (at + 1) (t .place) (λ z. omega arith) (t .guard) head in
-      let assigned = assignments-induct file vars end (λ marks i. vars ≤ length marks → Scan file (Walked.End last) i → Assigned marks i)
-      (λ marks k l s. assigned-none marks k) assigned-more 12 (replicate 12 0) (t .place) (t .assigns) m (g .rest) in
-      record { behind = t .place; interval = g .interval; guard = g .expression; assigned = assigned }
+      let updated = updates-induct file vars end (λ marks i. vars ≤ length marks → Scan file (Walked.End last) i → Updated marks i)
+      (λ marks k l s. updated-none marks k) updated-more 12 (replicate 12 0) (t .place) (t .updates) m (g .rest) in
+      record { behind = t .place; interval = g .interval; guard = g .expression; updated = updated }
 
 -- ---- the expressions of a readable file
 module _ (file : List ℕ) (o : Outline) (r : Stages file o) where
@@ -142,8 +165,8 @@ module _ (file : List ℕ) (o : Outline) (r : Stages file o) where
         just-or-not = transition-just file (n .place) (n .right);
         interval = g .interval;
         guard = g .guard;
-        assigned = g .assigned .variables;
-        assignments = g .assigned .assignments;
+        sets = g .updated .variables;
+        updates = g .updated .updates;
       }
 
   pub claimed-scanned : (i : ℕ) → i < expressionsOf file (o .property) → PropertyExpression file o i

@@ -13,6 +13,7 @@ use Rattle.parsing.proofs.Laws.Outline.{Parses, parses, walk-opens, same}
 use Rattle.shapes.specs.declared.Reading.{Reading}
 use Rattle.shapes.specs.Reading.{andFound}
 use Rattle.reading.specs.States.{statesOf}
+use Rattle.reading.specs.Picks.{picksOf}
 use Rattle.intervals.specs.Interval.{intervalsOf}
 use Rattle.reading.specs.Edge.{rulesOf, doublesOf}
 use Rattle.reading.specs.Read.{stagesRead, readOf}
@@ -26,6 +27,7 @@ pub record Ends (w : Walked) : Type 0 where
 pub record Stages (file : List ℕ) (o : Outline) : Type 0 where
   pub parsed : Parses file o
   pub states : Ends (statesOf file (o .vars) 0 1)
+  pub picks : Ends (picksOf file)
   pub intervals : Ends (intervalsOf file)
   pub rules : Ends (rulesOf file o)
   pub doubles : Ends (doublesOf file o)
@@ -39,11 +41,12 @@ module _ (file : List ℕ) (o : Outline) where
   unfolding stagesRead
   stages p is e =
       let s = walk-opens (statesOf file (p .vars) 0 1) e in
-      let i = walk-opens (intervalsOf file) (s .rest) in
+      let k = walk-opens (picksOf file) (s .rest) in
+      let i = walk-opens (intervalsOf file) (k .rest) in
       let r = walk-opens (rulesOf file p) (i .rest) in
       let d = walk-opens (doublesOf file p) (r .rest) in
       subst (Stages file) (same o p (d .rest))
-      (record { parsed = parses file p is; states = ends s; intervals = ends i; rules = ends r; doubles = ends d })
+      (record { parsed = parses file p is; states = ends s; picks = ends k; intervals = ends i; rules = ends r; doubles = ends d })
 
   from-parsed : (p : Reading) → parsedOf file ≡ p → andFound Reading.Refused p (stagesRead file) ≡ Reading.Found o → Stages file o
   from-parsed (Reading.Found p) is e = stages p is e

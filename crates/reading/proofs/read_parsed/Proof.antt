@@ -1,31 +1,10 @@
 -- `reading::read_parsed`: each stage refuses, or it ends and the next one decides.
 -- Assumes nothing.
 use mathlib.Core.Path.{sym, _∙_}
-use denote.Ref.{now}
-use Rattle.intervals.specs.Interval.{intervalsOf}
-use Rattle.reading.specs.States.{statesOf}
-use Rattle.reading.specs.Edge.{rulesOf}
 use Rattle.reading.specs.Read.{stagesRead}
-use Rattle.reading.proofs.Laws.Stage.{Ends}
 use borrow.Author.Needs.{needs}
 use Rattle.reading.proofs.read_parsed.Statement.{statement}
 use Rattle.reading.proofs.read_parsed.Tie as tie
-
--- ---- the stages that refused nothing
-states-ended : (c : tie.After-enum-told)
-    → let args = c .before .before .before .before .args in
-    Ends (statesOf (now (args .file)) (args .outline .vars) 0 1)
-states-ended c = record { end = _; is = sym (c .before .before .states .ensures) ∙ c .enum-told .given .1 }
-
-intervals-ended : (c : tie.After-enum-told2)
-    → let args = c .before .before .before .before .before .before .before .args in
-    Ends (intervalsOf (now (args .file)))
-intervals-ended c = record { end = _; is = sym (c .before .before .intervals .ensures) ∙ c .enum-told2 .given .1 }
-
-rules-ended : (c : tie.After-enum-told3)
-    → let args = c .before .before .before .before .before .before .before .before .before .before .args in
-    Ends (rulesOf (now (args .file)) (args .outline))
-rules-ended c = record { end = _; is = sym (c .before .before .rules .ensures) ∙ c .enum-told3 .given .1 }
 
 states-requires : tie.Need-states-requires
 states-requires c κs = search needs
@@ -40,20 +19,40 @@ returns c = simp (sym (c .before .before .before .states .ensures) ∙ c .before
 enum-told : tie.Need-enum-told
 enum-told c = search needs
 
+picks-requires : tie.Need-picks-requires
+picks-requires c κs = search needs
+
+enum-known-picks : tie.Need-enum-known-picks
+enum-known-picks c = search needs
+
+returns-2 : tie.Need-returns-2
+unfolding stagesRead
+returns-2 c =
+    simp (
+      sym (c .before .before .before .before .before .before .states .ensures) ∙ c .before .before .before .before .enum-told .given .1,
+      sym (c .before .before .before .picks .ensures) ∙ c .before .picks2 .given .1,
+    )
+
+enum-told-2 : tie.Need-enum-told-2
+enum-told-2 c = search needs
+
 intervals-requires : tie.Need-intervals-requires
 intervals-requires c κs = search needs
 
 enum-known-intervals : tie.Need-enum-known-intervals
 enum-known-intervals c = search needs
 
-returns-2 : tie.Need-returns-2
+returns-3 : tie.Need-returns-3
 unfolding stagesRead
-returns-2 c =
-    let states = c .before .before .before .before in
-    simp (states-ended states .is, sym (c .before .before .before .intervals .ensures) ∙ c .before .intervals2 .given .1)
+returns-3 c =
+    simp (
+      sym (c .before .before .before .before .before .before .before .before .before .states .ensures) ∙ c .before .before .before .before .before .before .before .enum-told .given .1,
+      sym (c .before .before .before .before .before .before .picks .ensures) ∙ c .before .before .before .before .enum-told2 .given .1,
+      sym (c .before .before .before .intervals .ensures) ∙ c .before .intervals2 .given .1,
+    )
 
-enum-told-2 : tie.Need-enum-told-2
-enum-told-2 c = search needs
+enum-told-3 : tie.Need-enum-told-3
+enum-told-3 c = search needs
 
 rules-requires : tie.Need-rules-requires
 rules-requires c κs = search needs
@@ -61,15 +60,18 @@ rules-requires c κs = search needs
 enum-known-rules : tie.Need-enum-known-rules
 enum-known-rules c = search needs
 
-returns-3 : tie.Need-returns-3
+returns-4 : tie.Need-returns-4
 unfolding stagesRead
-returns-3 c =
-    let intervals = c .before .before .before .before in
-    let states = intervals .before .before .before in
-    simp (states-ended states .is, intervals-ended intervals .is, sym (c .before .before .before .rules .ensures) ∙ c .before .rules2 .given .1)
+returns-4 c =
+    simp (
+      sym (c .before .before .before .before .before .before .before .before .before .before .before .before .states .ensures) ∙ c .before .before .before .before .before .before .before .before .before .before .enum-told .given .1,
+      sym (c .before .before .before .before .before .before .before .before .before .picks .ensures) ∙ c .before .before .before .before .before .before .before .enum-told2 .given .1,
+      sym (c .before .before .before .before .before .before .intervals .ensures) ∙ c .before .before .before .before .enum-told3 .given .1,
+      sym (c .before .before .before .rules .ensures) ∙ c .before .rules2 .given .1,
+    )
 
-enum-told-3 : tie.Need-enum-told-3
-enum-told-3 c = search needs
+enum-told-4 : tie.Need-enum-told-4
+enum-told-4 c = search needs
 
 doubles-requires : tie.Need-doubles-requires
 doubles-requires c κs = search needs
@@ -77,26 +79,30 @@ doubles-requires c κs = search needs
 enum-known-doubles : tie.Need-enum-known-doubles
 enum-known-doubles c = search needs
 
-returns-4 : tie.Need-returns-4
-unfolding stagesRead
-returns-4 c =
-    let rules = c .before .before .before .before in
-    let intervals = rules .before .before .before in
-    let states = intervals .before .before .before in
-    let refused = sym (c .before .before .before .doubles .ensures) ∙ c .before .doubles2 .given .1 in
-    simp (states-ended states .is, intervals-ended intervals .is, rules-ended rules .is, refused)
-
-enum-told-4 : tie.Need-enum-told-4
-enum-told-4 c = search needs
-
 returns-5 : tie.Need-returns-5
 unfolding stagesRead
 returns-5 c =
-    let rules = c .before .before .before in
-    let intervals = rules .before .before .before in
-    let states = intervals .before .before .before in
-    let ended = sym (c .before .before .doubles .ensures) ∙ c .enum-told4 .given .1 in
-    simp (states-ended states .is, intervals-ended intervals .is, rules-ended rules .is, ended)
+    simp (
+      sym (c .before .before .before .before .before .before .before .before .before .before .before .before .before .before .before .states .ensures) ∙ c .before .before .before .before .before .before .before .before .before .before .before .before .before .enum-told .given .1,
+      sym (c .before .before .before .before .before .before .before .before .before .before .before .before .picks .ensures) ∙ c .before .before .before .before .before .before .before .before .before .before .enum-told2 .given .1,
+      sym (c .before .before .before .before .before .before .before .before .before .intervals .ensures) ∙ c .before .before .before .before .before .before .before .enum-told3 .given .1,
+      sym (c .before .before .before .before .before .before .rules .ensures) ∙ c .before .before .before .before .enum-told4 .given .1,
+      sym (c .before .before .before .doubles .ensures) ∙ c .before .doubles2 .given .1,
+    )
+
+enum-told-5 : tie.Need-enum-told-5
+enum-told-5 c = search needs
+
+returns-6 : tie.Need-returns-6
+unfolding stagesRead
+returns-6 c =
+    simp (
+      sym (c .before .before .before .before .before .before .before .before .before .before .before .before .before .before .states .ensures) ∙ c .before .before .before .before .before .before .before .before .before .before .before .before .enum-told .given .1,
+      sym (c .before .before .before .before .before .before .before .before .before .before .before .picks .ensures) ∙ c .before .before .before .before .before .before .before .before .before .enum-told2 .given .1,
+      sym (c .before .before .before .before .before .before .before .before .intervals .ensures) ∙ c .before .before .before .before .before .before .enum-told3 .given .1,
+      sym (c .before .before .before .before .before .rules .ensures) ∙ c .before .before .before .enum-told4 .given .1,
+      sym (c .before .before .doubles .ensures) ∙ c .enum-told5 .given .1,
+    )
 
 pub read-parsed-spec : {M : Type 1} → statement M
 read-parsed-spec =
@@ -106,16 +112,20 @@ read-parsed-spec =
     enum-known-states
     returns
     enum-told
-    intervals-requires
-    enum-known-intervals
+    picks-requires
+    enum-known-picks
     returns-2
     enum-told-2
-    rules-requires
-    enum-known-rules
+    intervals-requires
+    enum-known-intervals
     returns-3
     enum-told-3
-    doubles-requires
-    enum-known-doubles
+    rules-requires
+    enum-known-rules
     returns-4
     enum-told-4
-    returns-5)
+    doubles-requires
+    enum-known-doubles
+    returns-5
+    enum-told-5
+    returns-6)

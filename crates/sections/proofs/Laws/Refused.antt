@@ -14,12 +14,13 @@ use Rattle.sections.specs.declared.Section.{Section}
 use Rattle.records.specs.Record.{fieldA, kindIs}
 use Rattle.records.specs.Kind.{number, truth}
 use Rattle.records.specs.Walk.{andThen, inSequence, walkOf, truthOf}
-use Rattle.sections.specs.Section.{noFields, variableFields, transitionFields, assignmentFields, edgeFields, itemsOf, variablesOf}
-use Rattle.sections.specs.Section.{assignmentsOf, transitionOf, transitionsOf, nodeOf, nodesOf, repeatedOf, edgeOf, edgesOf}
+use Rattle.sections.specs.Section.{noFields, variableFields, transitionFields, edgeFields, itemsOf, variablesOf}
+use Rattle.sections.specs.Section.{isUpdate, updateFields, updateOf, updatesOf, transitionOf, transitionsOf, nodeOf, nodesOf, repeatedOf, edgeOf, edgesOf}
 use Rattle.records.proofs.Laws.Record.{kind-is}
 use Rattle.records.proofs.Laws.Walk.{walk-bound}
 use Rattle.records.proofs.Laws.Refused.{refused-then, refused-sequence, refused-walk}
-use Rattle.sections.proofs.Laws.Section.{transition-bound, node-bound, edge-opens}
+use Rattle.sections.proofs.Laws.Section.{pick-one, assignment-ends, update-here, update-bound, transition-bound, node-bound, edge-opens}
+use Rattle.truths.proofs.Laws.Truth.{by-test}
 
 module _ (file : List ℕ) (n p : ℕ) where
   abbrev records : ℕ
@@ -35,24 +36,29 @@ module _ (file : List ℕ) (n p : ℕ) where
     refused-over at l true false e = let z : 4 ≡ n = cc in let y : at ≡ p = cc in omega arith
     refused-over at l false f e = let z : _≡_ {A = ℕ} 0 1 = cc in absurd (omega arith)
 
-    refused-assignment : (at : ℕ) (next : ℕ → Walked) → at ≤ records → ((x : ℕ) → x ≤ records → next x ≡ Refused n p → Right)
-        → (k f d : Bool) (w : Walked) → kindIs file 0x04 at ≡ k → walkOf file vars 16 number (at + 1) ≡ w
-        → cond k (cond f (cond d (andThen Refused w next) (Refused 6 at)) (Refused 4 at)) (End at) ≡ Refused n p → Right
-    refused-assignment at next l h true true true (Walked.End x) k w e = h x (walk-bound file vars 16 number (at + 1) x w .1) e
-    refused-assignment at next l h true true true (Walked.Refused m q) k w e =
-        let here = kind-is file 0x04 at k .0 in
-        refused-walk file vars n p 16 number (at + 1) (omega arith) (w ∙ e)
-    refused-assignment at next l h true true false w k is e = let z : 6 ≡ n = cc in let y : at ≡ p = cc in omega arith
-    refused-assignment at next l h true false d w k is e = let z : 4 ≡ n = cc in let y : at ≡ p = cc in omega arith
-    refused-assignment at next l h false f d w k is e = let z : _≡_ {A = ℕ} 0 1 = cc in absurd (omega arith)
+    refused-value : (at : ℕ) → isUpdate file at ≡ true → updateOf file vars at ≡ Refused n p → Right
+    refused-value at u e =
+        let here = update-here file at u in
+        by-test (kindIs file 0x08 at) (λ b. Right)
+        (λ k. let z : _≡_ {A = ℕ} 0 1 = (let y = pick-one file vars at k in cc) in absurd (omega arith))
+        (λ k. refused-walk file vars n p 16 number (at + 1) (omega arith) (assignment-ends file vars at k e))
 
-    refused-assignments : (left : ℕ) (marks : List ℕ) (at : ℕ) → at ≤ records → assignmentsOf file vars left marks at ≡ Refused n p → Right
-    unfolding assignmentsOf
-    refused-assignments zero marks at l e = refused-over at l (kindIs file 0x04 at) (assignmentFields file vars at) e
-    refused-assignments (suc left) marks at l e =
+    refused-update : (at : ℕ) (next : ℕ → Walked) → at ≤ records → ((x : ℕ) → x ≤ records → next x ≡ Refused n p → Right)
+        → (k f d : Bool) (w : Walked) → isUpdate file at ≡ k → updateOf file vars at ≡ w
+        → cond k (cond f (cond d (andThen Refused w next) (Refused 6 at)) (Refused 4 at)) (End at) ≡ Refused n p → Right
+    refused-update at next l h true true true (Walked.End x) k w e = h x (update-bound file vars at k x w .1) e
+    refused-update at next l h true true true (Walked.Refused m q) k w e = refused-value at k (w ∙ e)
+    refused-update at next l h true true false w k is e = let z : 6 ≡ n = cc in let y : at ≡ p = cc in omega arith
+    refused-update at next l h true false d w k is e = let z : 4 ≡ n = cc in let y : at ≡ p = cc in omega arith
+    refused-update at next l h false f d w k is e = let z : _≡_ {A = ℕ} 0 1 = cc in absurd (omega arith)
+
+    refused-updates : (left : ℕ) (marks : List ℕ) (at : ℕ) → at ≤ records → updatesOf file vars left marks at ≡ Refused n p → Right
+    unfolding updatesOf
+    refused-updates zero marks at l e = refused-over at l (isUpdate file at) (updateFields file vars at) e
+    refused-updates (suc left) marks at l e =
         let a = fieldA file at in
-        refused-assignment at (assignmentsOf file vars left (set marks a 1)) l (refused-assignments left (set marks a 1))
-        (kindIs file 0x04 at) (assignmentFields file vars at) (eqb (getD marks a 0) 0) (walkOf file vars 16 number (at + 1)) refl refl e
+        refused-update at (updatesOf file vars left (set marks a 1)) l (refused-updates left (set marks a 1))
+        (isUpdate file at) (updateFields file vars at) (eqb (getD marks a 0) 0) (updateOf file vars at) refl refl e
 
     walk-ends : (sort at end : ℕ) → walkOf file vars 16 sort at ≡ End end → end ≤ records
     walk-ends sort at end e = walk-bound file vars 16 sort at end e .1
@@ -61,7 +67,7 @@ module _ (file : List ℕ) (n p : ℕ) where
     unfolding transitionOf
     refused-transition at l =
         refused-then (truthOf file vars) records n p Right (walk-ends truth) (refused-walk file vars n p 16 truth)
-        (assignmentsOf file vars 12 (replicate 12 0)) (at + 1) (omega arith) (refused-assignments 12 (replicate 12 0))
+        (updatesOf file vars 12 (replicate 12 0)) (at + 1) (omega arith) (refused-updates 12 (replicate 12 0))
 
     -- ---- nodes
     refused-node : (ranks at : ℕ) → at < records → nodeOf file vars ranks at ≡ Refused n p → Right

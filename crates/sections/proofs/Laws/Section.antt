@@ -4,29 +4,39 @@
 --     single-nth         such an item passed its tests
 --     items-reach, sequence-reach         each item and each part: where it is, by those before it, that it passed its tests, and what holds there
 --     items-through, sequence-through     what holds at the first holds behind the last
---     transition-just, assignment-named   what the first record of a transition says, and that of an assignment names
---     assignments-induct, assignments-through     by induction over a transition's assignments; so what holds at the first holds behind the last
---     transition-opens                    a transition's guard and its assignments
+--     transition-just, update-named       what the first record of a transition says, and that of an update names
+--     update-assigns                      an update that is no pick is an assignment
+--     update-pick                         the values of a pick are in order, and in the range of its variable (C1.16)
+--     pick-one, pick-ends, assignment-ends    where an update ends
+--     update-here, update-bound           its record is in the file; it ends behind it and within the file
+--     updates-induct, updates-through     by induction over a transition's updates; so what holds at the first holds behind the last
+--     transition-opens                    a transition's guard and its updates
 --     transition-bound, transitions-bound     each ends behind its first record and within the file
 --     node-opens         a node's assertion and its ranks
 --     node-bound         it ends behind its first record and within the file
 --     edge-opens         an edge repeats none, and is one record
 -- Assumes nothing.
-use mathlib.Core.Path.{_≡_, refl, ap, subst, _∙_}
-use mathlib.Core.Bool.{Bool, true, false, cond, and-eq-true-iff}
+use mathlib.Core.Path.{_≡_, refl, sym, ap, subst, _∙_}
+use mathlib.Core.Logic.{⊎-elim}
+use mathlib.Core.Bool.{Bool, true, false, cond, and-eq-true-iff, false≢true}
 use mathlib.Core.List.{List}
 use Prim.Native.Nat.{ℕ, zero, suc, _+_, _-_, _*_, _/_, _<_, _≤_}
 use native.Mathlib.Omega.{arith}
 use lib.ListN.{length, getD, set, replicate}
 use borrow.Author.Tests.{ltb-true, leb-true, eqb-true}
 use lib.Dec.{ltb, leb, eqb}
+use lib.Signed.{leZ, _≤ℤ_}
+use Rattle.truths.proofs.Laws.Truth.{by-test, or-cases}
+use Rattle.integers.proofs.Laws.Parts.{ints}
 use Rattle.records.specs.declared.walk.Walked.{Walked}
 use Rattle.records.specs.declared.walk.Walked.the-variants.{End, Refused}
 use Rattle.sections.specs.declared.Section.{Section}
-use Rattle.records.specs.Record.{fieldA, kindIs, zerosOf}
+use Rattle.records.specs.Record.{fieldA, valueB, valueC, kindIs, zerosOf}
 use Rattle.records.specs.Kind.{number, truth}
 use Rattle.records.specs.Walk.{andThen, inSequence, walkOf, truthOf}
-use Rattle.sections.specs.Section.{transitionFields, assignmentFields, itemsOf, assignmentsOf, transitionOf, nodeOf, repeatedOf, edgeOf}
+use Rattle.sections.specs.Section.{transitionFields, assignmentFields, pickFields, itemsOf, isUpdate, updateFields, updateOf, updatesOf}
+use Rattle.sections.specs.Section.{transitionOf, nodeOf, repeatedOf, edgeOf}
+use Rattle.records.proofs.Laws.Record.{kind-is}
 use Rattle.records.proofs.Laws.Walk.{First, then-ends, walk-bound, sequence-induct, sequence-bound, sequence-none, sequence-next}
 
 -- ---- items
@@ -123,64 +133,121 @@ pub transition-just : (file : List ℕ) (at : ℕ) → transitionFields file at 
 unfolding transitionFields
 transition-just file at right = leb-true _ _ (and-eq-true-iff (leb (fieldA file at) 1) (zerosOf file (8 * at + 2) 6) .0 right .0)
 
-pub assignment-named : (file : List ℕ) (vars at : ℕ) → assignmentFields file vars at ≡ true → fieldA file at < vars
+-- ---- updates
+assignment-named : (file : List ℕ) (vars at : ℕ) → assignmentFields file vars at ≡ true → fieldA file at < vars
 unfolding assignmentFields
 assignment-named file vars at right = ltb-true _ _ (and-eq-true-iff (ltb (fieldA file at) vars) (zerosOf file (8 * at + 2) 6) .0 right .0)
 
+-- what a pick's fields say
+pub record PickRight (file : List ℕ) (vars at : ℕ) : Type 0 where
+  pub named : fieldA file at < vars
+  pub ordered : valueB file at ≤ℤ valueC file at
+  pub low : valueB file (fieldA file at) ≤ℤ valueB file at
+  pub high : valueC file at ≤ℤ valueC file (fieldA file at)
+
+pick-right : (file : List ℕ) (vars at : ℕ) → pickFields file vars at ≡ true → PickRight file vars at
+unfolding pickFields
+pick-right file vars at right =
+    let a = fieldA file at in
+    let high = and-eq-true-iff _ (leZ (valueC file at) (valueC file a)) .0 right in
+    let low = and-eq-true-iff _ (leZ (valueB file a) (valueB file at)) .0 (high .0) in
+    let ordered = and-eq-true-iff _ (leZ (valueB file at) (valueC file at)) .0 (low .0) in
+    let named = and-eq-true-iff (ltb a vars) (zerosOf file (8 * at + 6) 2) .0 (ordered .0) in
+    record { named = ltb-true _ _ (named .0); ordered = omega ints; low = omega ints; high = omega ints }
+
+pub update-here : (file : List ℕ) (at : ℕ) → isUpdate file at ≡ true → at < length file / 8
+unfolding isUpdate
+update-here file at u =
+    ⊎-elim (λ e. kind-is file 0x04 at e .0) (λ e. kind-is file 0x08 at e .0) (or-cases (kindIs file 0x04 at) (kindIs file 0x08 at) u)
+
+module _ (file : List ℕ) (vars at : ℕ) where
+  pub update-pick : kindIs file 0x08 at ≡ true → updateFields file vars at ≡ true → PickRight file vars at
+  unfolding updateFields
+  update-pick k right = pick-right file vars at (rw k at right)
+
+  pub update-named : updateFields file vars at ≡ true → fieldA file at < vars
+  unfolding updateFields
+  update-named =
+      by-test (kindIs file 0x08 at) (λ b. cond b (pickFields file vars at) (assignmentFields file vars at) ≡ true → fieldA file at < vars)
+      (λ k e. pick-right file vars at e .named) (λ k e. assignment-named file vars at e)
+
+  -- a pick is one record; an assignment ends behind its value
+  pub pick-one : kindIs file 0x08 at ≡ true → updateOf file vars at ≡ End (at + 1)
+  unfolding updateOf
+  pick-one k = rw k
+
+  pub pick-ends : {end : ℕ} → kindIs file 0x08 at ≡ true → updateOf file vars at ≡ End end → end ≡ at + 1
+  pick-ends k e = let z = pick-one k in cc
+
+  pub assignment-ends : {w : Walked} → kindIs file 0x08 at ≡ false → updateOf file vars at ≡ w → walkOf file vars 16 number (at + 1) ≡ w
+  unfolding updateOf
+  assignment-ends k e = rw k at e
+
+  -- what is no pick is an assignment
+  pub update-assigns : isUpdate file at ≡ true → kindIs file 0x08 at ≡ false → kindIs file 0x04 at ≡ true
+  unfolding isUpdate
+  update-assigns u k = ⊎-elim (λ e. e) (λ e. absurd (false≢true (sym k ∙ e))) (or-cases (kindIs file 0x04 at) (kindIs file 0x08 at) u)
+
+  pub update-bound : isUpdate file at ≡ true → (end : ℕ) → updateOf file vars at ≡ End end → (at < end) × (end ≤ length file / 8)
+  update-bound u end e =
+      by-test (kindIs file 0x08 at) (λ b. (at < end) × (end ≤ length file / 8))
+      (λ k. omega (arith, pick-ends k e, update-here file at u))
+      (λ k. omega (arith, walk-bound file vars 16 number (at + 1) end (assignment-ends k e)))
+
 module _ (file : List ℕ) (vars end : ℕ) where
-  -- by induction over the assignments, with the marks of the variables assigned before: Q is shown behind the last, and carried back past each
-  module _ (Q : List ℕ → ℕ → Type 0) (base : (assigned : List ℕ) → kindIs file 0x04 end ≡ false → Q assigned end)
-      (back : (assigned : List ℕ) (at x : ℕ) → kindIs file 0x04 at ≡ true → assignmentFields file vars at ≡ true → getD assigned (fieldA file at) 0 ≡ 0
-      → walkOf file vars 16 number (at + 1) ≡ End x → Q (set assigned (fieldA file at) 1) x → Q assigned at) where
-    assign-none : (assigned : List ℕ) (at : ℕ) → kindIs file 0x04 at ≡ false → End at ≡ End end → Q assigned at
-    assign-none assigned at k e = let z : at ≡ end = cc in rw z (base assigned (rw z at k))
+  -- by induction over the updates, with the marks of the variables set before: Q is shown behind the last, and carried back past each
+  module _ (Q : List ℕ → ℕ → Type 0) (base : (marks : List ℕ) → isUpdate file end ≡ false → Q marks end)
+      (back : (marks : List ℕ) (at x : ℕ) → isUpdate file at ≡ true → updateFields file vars at ≡ true → getD marks (fieldA file at) 0 ≡ 0
+      → updateOf file vars at ≡ End x → Q (set marks (fieldA file at) 1) x → Q marks at) where
+    update-none : (marks : List ℕ) (at : ℕ) → isUpdate file at ≡ false → End at ≡ End end → Q marks at
+    update-none marks at k e = let z : at ≡ end = cc in rw z (base marks (rw z at k))
 
-    assign-over : (assigned : List ℕ) (at : ℕ) (k f : Bool) → kindIs file 0x04 at ≡ k → cond k (cond f (Refused 6 at) (Refused 4 at)) (End at) ≡ End end
-        → Q assigned at
-    assign-over assigned at true true k e = let z : _≡_ {A = ℕ} 0 1 = cc in absurd (omega arith)
-    assign-over assigned at true false k e = let z : _≡_ {A = ℕ} 0 1 = cc in absurd (omega arith)
-    assign-over assigned at false f k e = assign-none assigned at k e
+    update-over : (marks : List ℕ) (at : ℕ) (k f : Bool) → isUpdate file at ≡ k → cond k (cond f (Refused 6 at) (Refused 4 at)) (End at) ≡ End end
+        → Q marks at
+    update-over marks at true true k e = let z : _≡_ {A = ℕ} 0 1 = cc in absurd (omega arith)
+    update-over marks at true false k e = let z : _≡_ {A = ℕ} 0 1 = cc in absurd (omega arith)
+    update-over marks at false f k e = update-none marks at k e
 
-    assign-back : (assigned : List ℕ) (at : ℕ) (next : ℕ → Walked) → ((x : ℕ) → next x ≡ End end → Q (set assigned (fieldA file at) 1) x)
-        → (k f d : Bool) (w : Walked) → kindIs file 0x04 at ≡ k → assignmentFields file vars at ≡ f → eqb (getD assigned (fieldA file at) 0) 0 ≡ d
-        → walkOf file vars 16 number (at + 1) ≡ w
-        → cond k (cond f (cond d (andThen Refused w next) (Refused 6 at)) (Refused 4 at)) (End at) ≡ End end → Q assigned at
-    assign-back assigned at next h true true true (Walked.End x) k f d w e = back assigned at x k f (eqb-true _ _ d) w (h x e)
-    assign-back assigned at next h true true true (Walked.Refused n q) k f d w e = let z : _≡_ {A = ℕ} 0 1 = cc in absurd (omega arith)
-    assign-back assigned at next h true true false w k f d is e = let z : _≡_ {A = ℕ} 0 1 = cc in absurd (omega arith)
-    assign-back assigned at next h true false d w k f is it e = let z : _≡_ {A = ℕ} 0 1 = cc in absurd (omega arith)
-    assign-back assigned at next h false f d w k is it so e = assign-none assigned at k e
+    update-back : (marks : List ℕ) (at : ℕ) (next : ℕ → Walked) → ((x : ℕ) → next x ≡ End end → Q (set marks (fieldA file at) 1) x)
+        → (k f d : Bool) (w : Walked) → isUpdate file at ≡ k → updateFields file vars at ≡ f → eqb (getD marks (fieldA file at) 0) 0 ≡ d
+        → updateOf file vars at ≡ w
+        → cond k (cond f (cond d (andThen Refused w next) (Refused 6 at)) (Refused 4 at)) (End at) ≡ End end → Q marks at
+    update-back marks at next h true true true (Walked.End x) k f d w e = back marks at x k f (eqb-true _ _ d) w (h x e)
+    update-back marks at next h true true true (Walked.Refused n q) k f d w e = let z : _≡_ {A = ℕ} 0 1 = cc in absurd (omega arith)
+    update-back marks at next h true true false w k f d is e = let z : _≡_ {A = ℕ} 0 1 = cc in absurd (omega arith)
+    update-back marks at next h true false d w k f is it e = let z : _≡_ {A = ℕ} 0 1 = cc in absurd (omega arith)
+    update-back marks at next h false f d w k is it so e = update-none marks at k e
 
-    pub assignments-induct : (left : ℕ) (assigned : List ℕ) (at : ℕ) → assignmentsOf file vars left assigned at ≡ End end → Q assigned at
-    unfolding assignmentsOf
-    assignments-induct zero assigned at e = assign-over assigned at (kindIs file 0x04 at) (assignmentFields file vars at) refl e
-    assignments-induct (suc left) assigned at e =
+    pub updates-induct : (left : ℕ) (marks : List ℕ) (at : ℕ) → updatesOf file vars left marks at ≡ End end → Q marks at
+    unfolding updatesOf
+    updates-induct zero marks at e = update-over marks at (isUpdate file at) (updateFields file vars at) refl e
+    updates-induct (suc left) marks at e =
         let a = fieldA file at in
-        assign-back assigned at (assignmentsOf file vars left (set assigned a 1)) (assignments-induct left (set assigned a 1))
-        (kindIs file 0x04 at) (assignmentFields file vars at) (eqb (getD assigned a 0) 0) (walkOf file vars 16 number (at + 1)) refl refl refl refl e
+        update-back marks at (updatesOf file vars left (set marks a 1)) (updates-induct left (set marks a 1))
+        (isUpdate file at) (updateFields file vars at) (eqb (getD marks a 0) 0) (updateOf file vars at) refl refl refl refl e
 
-  -- what is carried past each assignment is carried past all
-  pub assignments-through : (P : ℕ → Type 0) → ((i x : ℕ) → kindIs file 0x04 i ≡ true → walkOf file vars 16 number (i + 1) ≡ End x → P i → P x)
-      → (left : ℕ) (assigned : List ℕ) (at : ℕ) → assignmentsOf file vars left assigned at ≡ End end → P at → P end
-  assignments-through P step =
-      assignments-induct (λ assigned at. P at → P end) (λ assigned k p. p) (λ assigned at x k f d w h p. h (step at x k w p))
+  -- what is carried past each update is carried past all
+  pub updates-through : (P : ℕ → Type 0) → ((i x : ℕ) → isUpdate file i ≡ true → updateOf file vars i ≡ End x → P i → P x)
+      → (left : ℕ) (marks : List ℕ) (at : ℕ) → updatesOf file vars left marks at ≡ End end → P at → P end
+  updates-through P step =
+      updates-induct (λ marks at. P at → P end) (λ marks k p. p) (λ marks at x k f d w h p. h (step at x k w p))
 
-  -- a transition: where its guard ends, and its assignments from there on
+  -- a transition: where its guard ends, and its updates from there on
   pub record Guarded (at : ℕ) : Type 0 where
     pub place : ℕ
     pub guard : walkOf file vars 16 truth (at + 1) ≡ End place
-    pub assigns : assignmentsOf file vars 12 (replicate 12 0) place ≡ End end
+    pub updates : updatesOf file vars 12 (replicate 12 0) place ≡ End end
 
   pub transition-opens : (at : ℕ) → transitionOf file vars at ≡ End end → Guarded at
   unfolding transitionOf
-  transition-opens at e = let g = then-ends (walkOf file vars 16 truth (at + 1)) e in record { place = g .mid; guard = g .first; assigns = g .rest }
+  transition-opens at e = let g = then-ends (walkOf file vars 16 truth (at + 1)) e in record { place = g .mid; guard = g .first; updates = g .rest }
 
   pub transition-bound : (at : ℕ) → transitionOf file vars at ≡ End end → (at < end) × (end ≤ length file / 8)
   transition-bound at e =
       let t = transition-opens at e in
       let b = walk-bound file vars 16 truth (at + 1) (t .place) (t .guard) in
-      assignments-through (λ i. (at < i) × (i ≤ length file / 8))
-      (λ i x k w p. let a = walk-bound file vars 16 number (i + 1) x w in omega arith) 12 (replicate 12 0) (t .place) (t .assigns) (omega arith)
+      updates-through (λ i. (at < i) × (i ≤ length file / 8))
+      (λ i x k w p. omega (arith, update-bound file vars i k x w)) 12 (replicate 12 0) (t .place) (t .updates) (omega arith)
 
 -- behind t transitions in turn
 pub transitions-bound : (file : List ℕ) (vars t first end : ℕ) → first ≤ length file / 8 → inSequence (transitionOf file vars) t first ≡ End end

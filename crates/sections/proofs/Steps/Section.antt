@@ -13,16 +13,14 @@ use Rattle.sections.specs.declared.Section.{Section}
 use Rattle.sections.specs.declared.Item.{Item}
 use Rattle.sections.specs.declared.Item.the-variants.{Variable, Transition, Node, Edge}
 use Rattle.records.specs.Record.{fieldA, kindIs}
-use Rattle.records.specs.Kind.{number}
-use Rattle.records.specs.Walk.{walkOf}
 use Rattle.shapes.specs.declared.Claim.{Claim}
 use Rattle.shapes.specs.declared.Property.{Property}
 use Rattle.shapes.specs.Property.{propertyOf}
-use Rattle.sections.specs.Section.{phasesFit, assignmentFields, itemsOf, assignmentsOf}
+use Rattle.sections.specs.Section.{phasesFit, itemsOf, isUpdate, updateFields, updateOf, updatesOf}
 use Rattle.sections.specs.Item.{itemOf, Walkable}
 use Rattle.truths.proofs.Laws.Answer.{if-taken, if-left, unless-taken, unless-left}
 use Rattle.records.proofs.Laws.Record.{kind-is}
-use Rattle.sections.proofs.Laws.Section.{assignment-named, transition-bound, node-bound, edge-opens}
+use Rattle.sections.proofs.Laws.Section.{update-here, update-named, transition-bound, node-bound, edge-opens}
 
 -- where a call finds the record to be of its kind, it is in the file
 pub found-here : (file : List ℕ) (kind at : ℕ) {named : Bool} → named ≡ kindIs file kind at → named ≡ true → at < length file / 8
@@ -87,45 +85,49 @@ module _ (file : List ℕ) where
   item-within (Node vars ranks) w at end e = node-bound file vars ranks at end e .1
   item-within (Edge transitions nodes first) w at end e = absurd (omega (arith, w (length file / 8) (omega arith) .1))
 
--- ---- assignments
--- the variable assigned is one of the file's
-pub assigned-below : (file : List ℕ) (vars at : ℕ) {right : Bool} → right ≡ assignmentFields file vars at → not right ≡ false → fieldA file at < vars
-assigned-below file vars at f r = assignment-named file vars at (unless-left f r)
+-- ---- updates
+-- where a call finds an update, it is in the file
+pub update-found : (file : List ℕ) (at : ℕ) {named : Bool} → named ≡ isUpdate file at → named ≡ true → at < length file / 8
+update-found file at k t = update-here file at (if-taken k t)
 
-module _ (file : List ℕ) (vars : ℕ) (assigned : List ℕ) where
-  module _ {all : Walked} (at : ℕ) {named : Bool} (k : named ≡ kindIs file 0x04 at) where
-    pub assign-stop : (left : ℕ) → all ≡ assignmentsOf file vars left assigned at → named ≡ false → Walked.End at ≡ all
-    unfolding assignmentsOf
-    assign-stop zero inv t = sym (inv ∙ rw (if-left k t))
-    assign-stop (suc left) inv t = sym (inv ∙ rw (if-left k t))
+-- the variable that is set is one of the file's
+pub set-below : (file : List ℕ) (vars at : ℕ) {right : Bool} → right ≡ updateFields file vars at → not right ≡ false → fieldA file at < vars
+set-below file vars at f r = update-named file vars at (unless-left f r)
 
-    module _ (t : named ≡ true) {right : Bool} (f : right ≡ assignmentFields file vars at) where
-      pub assign-field : (left : ℕ) → all ≡ assignmentsOf file vars left assigned at → not right ≡ true → Walked.Refused 4 at ≡ all
-      unfolding assignmentsOf
-      assign-field zero inv r = sym (inv ∙ rw (if-taken k t, unless-taken f r))
-      assign-field (suc left) inv r = sym (inv ∙ rw (if-taken k t, unless-taken f r))
+module _ (file : List ℕ) (vars : ℕ) (marks : List ℕ) where
+  module _ {all : Walked} (at : ℕ) {named : Bool} (k : named ≡ isUpdate file at) where
+    pub update-stop : (left : ℕ) → all ≡ updatesOf file vars left marks at → named ≡ false → Walked.End at ≡ all
+    unfolding updatesOf
+    update-stop zero inv t = sym (inv ∙ rw (if-left k t))
+    update-stop (suc left) inv t = sym (inv ∙ rw (if-left k t))
+
+    module _ (t : named ≡ true) {right : Bool} (f : right ≡ updateFields file vars at) where
+      pub update-field : (left : ℕ) → all ≡ updatesOf file vars left marks at → not right ≡ true → Walked.Refused 4 at ≡ all
+      unfolding updatesOf
+      update-field zero inv r = sym (inv ∙ rw (if-taken k t, unless-taken f r))
+      update-field (suc left) inv r = sym (inv ∙ rw (if-taken k t, unless-taken f r))
 
       module _ (r : not right ≡ false) where
-        pub assign-over : (left : ℕ) → all ≡ assignmentsOf file vars left assigned at → left ≡ 0 → Walked.Refused 6 at ≡ all
-        unfolding assignmentsOf
-        assign-over zero inv h = sym (inv ∙ rw (if-taken k t, unless-left f r))
-        assign-over (suc left) inv h = absurd (omega arith)
+        pub update-over : (left : ℕ) → all ≡ updatesOf file vars left marks at → left ≡ 0 → Walked.Refused 6 at ≡ all
+        unfolding updatesOf
+        update-over zero inv h = sym (inv ∙ rw (if-taken k t, unless-left f r))
+        update-over (suc left) inv h = absurd (omega arith)
 
-        pub assign-again : (left : ℕ) → all ≡ assignmentsOf file vars left assigned at → (left ≡ 0 → ⊥)
-            → (getD assigned (fieldA file at) 0 ≡ 0 → ⊥) → Walked.Refused 6 at ≡ all
-        unfolding assignmentsOf
-        assign-again zero inv h u = absurd (h refl)
-        assign-again (suc left) inv h u = sym (inv ∙ rw (if-taken k t, unless-left f r, ne-eqb _ _ u))
+        pub update-again : (left : ℕ) → all ≡ updatesOf file vars left marks at → (left ≡ 0 → ⊥)
+            → (getD marks (fieldA file at) 0 ≡ 0 → ⊥) → Walked.Refused 6 at ≡ all
+        unfolding updatesOf
+        update-again zero inv h u = absurd (h refl)
+        update-again (suc left) inv h u = sym (inv ∙ rw (if-taken k t, unless-left f r, ne-eqb _ _ u))
 
-        module _ (free : getD assigned (fieldA file at) 0 ≡ 0) {found : Walked} (w : found ≡ walkOf file vars 16 number (at + 1)) where
-          pub assign-ends : (left end : ℕ) → all ≡ assignmentsOf file vars left assigned at → (left ≡ 0 → ⊥) → found ≡ Walked.End end
-              → all ≡ assignmentsOf file vars (left - 1) (set assigned (fieldA file at) 1) end
-          unfolding assignmentsOf
-          assign-ends zero end inv h e = absurd (h refl)
-          assign-ends (suc left) end inv h e = inv ∙ rw (if-taken k t, unless-left f r, eq-eqb _ _ free, sym w ∙ e, sub-one)
+        module _ (free : getD marks (fieldA file at) 0 ≡ 0) {found : Walked} (w : found ≡ updateOf file vars at) where
+          pub update-ends : (left end : ℕ) → all ≡ updatesOf file vars left marks at → (left ≡ 0 → ⊥) → found ≡ Walked.End end
+              → all ≡ updatesOf file vars (left - 1) (set marks (fieldA file at) 1) end
+          unfolding updatesOf
+          update-ends zero end inv h e = absurd (h refl)
+          update-ends (suc left) end inv h e = inv ∙ rw (if-taken k t, unless-left f r, eq-eqb _ _ free, sym w ∙ e, sub-one)
 
-          pub assign-refused : (left : ℕ) {number place : ℕ} → all ≡ assignmentsOf file vars left assigned at → (left ≡ 0 → ⊥)
+          pub update-refused : (left : ℕ) {number place : ℕ} → all ≡ updatesOf file vars left marks at → (left ≡ 0 → ⊥)
               → found ≡ Walked.Refused number place → Walked.Refused number place ≡ all
-          unfolding assignmentsOf
-          assign-refused zero inv h e = absurd (h refl)
-          assign-refused (suc left) inv h e = sym (inv ∙ rw (if-taken k t, unless-left f r, eq-eqb _ _ free, sym w ∙ e))
+          unfolding updatesOf
+          update-refused zero inv h e = absurd (h refl)
+          update-refused (suc left) inv h e = sym (inv ∙ rw (if-taken k t, unless-left f r, eq-eqb _ _ free, sym w ∙ e))

@@ -1,4 +1,4 @@
--- `sections::transition` meets its contract: where the guard ends, the assignments say the rest.
+-- `sections::transition` meets its contract: where the guard ends, the updates say the rest.
 -- Assumes nothing.
 use mathlib.Core.Path.{sym, _∙_}
 use Rattle.sections.specs.Section.{transitionOf}
@@ -15,15 +15,15 @@ walk-requires c κs = search needs
 enum-known-guard : tie.Need-enum-known-guard
 enum-known-guard c = search needs
 
-assignments-requires : tie.Need-assignments-requires
-assignments-requires c κs = search needs
+updates-requires : tie.Need-updates-requires
+updates-requires c κs = search needs
 
 enum-known-guard-2 : tie.Need-enum-known-guard-2
 enum-known-guard-2 c = search needs
 
 returns : tie.Need-returns
 unfolding transitionOf
-returns c = simp (sym (c .before .before .before .before .walk .ensures) ∙ c .before .before .guard .given .1) (c .assignments .ensures)
+returns c = simp (sym (c .before .before .before .before .walk .ensures) ∙ c .before .before .guard .given .1) (c .updates .ensures)
 
 returns-2 : tie.Need-returns-2
 unfolding transitionOf
@@ -36,7 +36,7 @@ transition-spec =
     add-walk
     walk-requires
     enum-known-guard
-    assignments-requires
+    updates-requires
     enum-known-guard-2
     returns
     returns-2)

@@ -10,6 +10,8 @@ use native.Mathlib.Omega.{arith}
 use borrow.Author.Tests.{eq-eqb, eqb-true}
 use lib.Dec.{T, T-not}
 use lib.IntN.{ℤ}
+use Rattle.truths.specs.Listed.{allPass}
+use Rattle.truths.proofs.Laws.Listed.{all-pass-member}
 use Rattle.truths.proofs.Laws.Truth.{is-true, so-true, implied, both, left, right, either}
 use Rattle.shapes.specs.declared.Claim.{Claim as Kind}
 use Rattle.shapes.specs.Property.{propertyOf}
@@ -17,7 +19,7 @@ use Rattle.shapes.proofs.Laws.Property.{invariance-row, wait-for-row, chain-row
 use Rattle.diagrams.specs.declared.Diagram.{Diagram}
 use Rattle.diagrams.specs.Diagram.{Loaded, State, edgeOf}
 use Rattle.diagrams.specs.Truth.{startHolds, nodeHolds, pHolds, qHolds}
-use Rattle.diagrams.specs.System.{justOf, guardHolds, valuesFit, isEnabled, nextState}
+use Rattle.diagrams.specs.System.{justOf, guardHolds, valuesFit, isEnabled, nextStates}
 use Rattle.diagrams.specs.Promise.{DoubleTransition, Promise}
 use Rattle.diagrams.proofs.Laws.Diagram.{promised}
 use Rattle.diagrams.proofs.Laws.Truth.{q-only}
@@ -91,7 +93,7 @@ module _ (file : List ℕ) (g : Diagram) (r : Loaded file g) where
         so-true _ (x .3),
       )
 
-  -- a step's successor satisfies the node itself, if t is not its double transition, or a target
+  -- each successor of a step satisfies the node itself, if t is not its double transition, or a target
   abbrev Reached : ℕ → ℕ → List ℤ → Type 0
   Reached i t s = (T (not (isDouble file g i t)) × T (nodeHolds file g i s)) ⊎ Target (systemOf file g) (drawn file g) t i s
 
@@ -105,11 +107,9 @@ module _ (file : List ℕ) (g : Diagram) (r : Loaded file g) where
 
   step-holds : (i t : ℕ) → Holds file g (Step i t) → (s s′ : List ℤ) → State g s → T (nodeHolds file g i s)
       → Successor (systemOf file g) t s s′ → Reached i t s′
-  step-holds i t h s s′ w y (act, e) =
-      subst (Reached i t) (sym e)
-      (reached i t (nextState file g t s)
-      (implied (nodeHolds file g i s && isEnabled file g t s) (stepLeads file g i t (nextState file g t s)) (sym (step-says file g s i t) ∙ h s w)
-      (both (nodeHolds file g i s) (isEnabled file g t s) y (subst T (sym (enabled-and file g t s)) act))))
+  step-holds i t h s s′ w y (act, m) =
+      let all = implied (nodeHolds file g i s) (allPass (stepLeads file g i t) (nextStates file g t s)) (sym (step-says file g s i t) ∙ h s w) y in
+      reached i t s′ (so-true _ (all-pass-member (stepLeads file g i t) (nextStates file g t s) s′ (is-true _ all) m))
 
   keep : (i t : ℕ) → Holds file g (Step i t) → StepAt (systemOf file g) (drawn file g) i t
   keep i t h s s′ w y z = go (step-holds i t h s s′ w y z)

@@ -35,7 +35,7 @@ use Rattle.soundness.specs.System.{systemOf, Claimed, Claim}
 use Rattle.soundness.proofs.Sharp.Computing.{claiming}
 use Rattle.diagrams.proofs.Values.{v, state}
 use Rattle.soundness.proofs.Laws.System.{state-run, step-run, idle-run}
-use Rattle.soundness.proofs.Sharp.Files.{Case, Reads, is, invariance, wait-for, chain, file, diagram, claims, refuted, started}
+use Rattle.soundness.proofs.Sharp.Files.{Case, Reads, is, invariance, wait-for, chain, file, diagram, loaded, claims, refuted, started}
 
 -- ---- a start
 pub begins : (c : Case) → Reads c → (x : Claim (file c))
@@ -56,7 +56,7 @@ left = invariance (is 1) (is 1 ∷ [])
 pub invariance-q : Claim (file left) → ⊥
 unfolding claiming
 invariance-q = refuted left refl (λ c.
-    let run = step-run (file left) (diagram left) (v 1) (state (lit≤ tt)) 0 tt (lit< tt) in
+    let run = step-run (file left) (diagram left) (loaded left refl) (v 1) (state (lit≤ tt)) 0 (lit< tt) (v 2) (tt, inl refl) in
     c .0 (finite (v 1) (v 2 ∷ [])) run tt 1 (lit< tt))
 
 -- at v = 0 the guard of transition 1 is true, and v - 1 is out of range
@@ -89,7 +89,7 @@ passed = wait-for (is 0) (is 2 ∷ is 0 ∷ []) (is 2 ∷ is 1 ∷ [])
 pub wait-for-q : Claim (file passed) → ⊥
 unfolding claiming
 wait-for-q = refuted passed refl (λ c.
-    let run = step-run (file passed) (diagram passed) (v 0) (state (lit≤ tt)) 0 tt (lit< tt) in
+    let run = step-run (file passed) (diagram passed) (loaded passed refl) (v 0) (state (lit≤ tt)) 0 (lit< tt) (v 1) (tt, inl refl) in
     let x = c .0 .numbered passing run 0 (lit< tt) tt in
     let one : x .number 1 ≡ 1 = omega (arith, x .from-one 1 waits, x .to-m 1 waits) in
     subst (λ (i : ℕ). T (qHolds (file passed) (diagram passed) i (v 1))) one (x .hold 1 waits))

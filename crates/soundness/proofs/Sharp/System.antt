@@ -4,9 +4,10 @@
 --     transitions     all
 --     just            the last, not the first (C5.5)
 --     guard, fits     each transition's own, in the order v = 0, v = 1, v = 2 (C5.2)
---     assigns         each transition's own successor, and no other (C5.3)
+--     assigns         each transition's own successors, and no others (C5.3); none by one that is disabled
 -- Assumes nothing.
 use mathlib.Core.Path.{_≡_, refl}
+use mathlib.Core.Logic.{_⊎_, inl, inr}
 use mathlib.Core.Bool.{true, false}
 use mathlib.Core.List.{List, [], _∷_, map}
 use Prim.Native.Nat.{ℕ}
@@ -52,7 +53,11 @@ pub fits : map (λ t. map (M .fits t) states) both ≡ (true ∷ true ∷ false 
 unfolding computing
 fits = refl
 
-pub assigns : M .Assigns 0 (v 1) (v 2) × ((s : List ℤ) → M .Assigns 0 (v 1) s → s ≡ v 2)
-    × M .Assigns 1 (v 1) (v 0) × ((s : List ℤ) → M .Assigns 1 (v 1) s → s ≡ v 0)
+-- transition 1 is disabled at v = 1
+pub assigns : M .Assigns 0 (v 1) (v 2) × ((s : List ℤ) → M .Assigns 0 (v 1) s → s ≡ v 2) × ((s : List ℤ) → M .Assigns 1 (v 1) s → ⊥)
 unfolding computing
-assigns = (refl, λ s e. e, refl, λ s e. e)
+assigns = (inl refl, only, λ s m. m)
+  where
+    only : (s : List ℤ) → (s ≡ v 2) ⊎ ⊥ → s ≡ v 2
+    only s (inl e) = e
+    only s (inr m) = absurd m

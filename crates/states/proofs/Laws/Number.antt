@@ -1,5 +1,6 @@
 -- Laws of the numbers of states.
 --     count-pos, size-pos                there is a state at least, and a value in each range
+--     count-self, count-set              one where no range has more than a value; at most so many times more where one variable has
 --     below-high                         an offset below the size of a range is that of a value in it
 --     number-below, state-within         a state has a number below the count, and such a number a state (C4.5)
 --     state-of-number, number-of-state   each determines the other (C4.5)
@@ -8,20 +9,22 @@
 --     advance-within                     the move forward leads to a state
 --     advance-number, advance-next       from any state but the last, to the one numbered one higher (C4.6)
 --     advance-last                       and from the last to the first
+--     last-number, next-number           the last state has the last number and starts anew; any other moves on by one
 -- Assumes nothing.
 use mathlib.Core.Path.{_≡_, refl, sym, ap, _∙_}
 use mathlib.Core.Bool.{Bool, true, false, cond, _&&_, and-eq-true-iff, and-true}
 use mathlib.Core.List.{List, [], _∷_}
-use Prim.Native.Nat.{ℕ, _+_, _*_, _/_, _%_, _<_}
-use native.Mathlib.Nat.{mul-pos, div-add-mod', div-lt-iff-lt-mul, mod-lt, add-mul, one-mul, zero-mul}
+use Prim.Native.Nat.{ℕ, zero, suc, _+_, _*_, _/_, _%_, _<_, _≤_}
+use native.Mathlib.Nat.{mul-pos, mul-assoc, mul-comm, mul-le-mul-left, div-add-mod', div-lt-iff-lt-mul, mod-lt, add-mul, one-mul, zero-mul}
 use native.Mathlib.Omega.{arith}
 use lib.Arith.{digits-lt, digits-div, digits-mod, lt-one}
 use lib.IntN.{ℤ, pos, _+ℤ_}
+use lib.ListN.{getD, set}
 use lib.Signed.{leZ, ltZ, _≤ℤ_, ≤ℤ-refl}
 use Rattle.integers.specs.Radix.{at, offsetOf}
 use Rattle.truths.proofs.Laws.Truth.{by-test}
 use Rattle.integers.proofs.Laws.Parts.{ints, add-parts}
-use Rattle.integers.proofs.Laws.Radix.{at-above, at-below, offset-at, at-offset, offset-self, offset-next, offset-rises}
+use Rattle.integers.proofs.Laws.Radix.{at-above, at-below, offset-at, at-offset, offset-self, offset-swap, offset-next, offset-rises}
 use Rattle.states.specs.State.{Within}
 use Rattle.states.specs.Ranges.{Ranges}
 use Rattle.states.specs.Ranges.Ranges.{none as no-ranges, more as more-ranges}
@@ -38,6 +41,10 @@ pub size-self : (x : ℤ) → sizeOf x x ≡ 1
 unfolding sizeOf
 size-self x = rw (offset-self x) refl
 
+pub size-swap : (low high : ℤ) → sizeOf high low ≡ sizeOf low high
+unfolding sizeOf
+size-swap low high = rw (offset-swap low high) refl
+
 pub count-none : countOf [] [] ≡ 1
 unfolding countOf
 count-none = refl
@@ -51,6 +58,20 @@ unfolding countOf
 count-pos [] highs = omega arith
 count-pos (low ∷ lows) [] = omega arith
 count-pos (low ∷ lows) (high ∷ highs) = mul-pos (size-pos low high) (count-pos lows highs)
+
+pub count-self : (state : List ℤ) → countOf state state ≡ 1
+count-self [] = count-none
+count-self (x ∷ state) = rw (count-more, size-self, count-self state)
+
+-- a range more, where there was one value
+pub count-set : (low high : ℤ) (i : ℕ) (lows highs : List ℤ) → getD lows i (pos 0) ≡ getD highs i (pos 0)
+    → countOf (set lows i low) (set highs i high) ≤ countOf lows highs * sizeOf low high
+unfolding countOf
+count-set low high i [] highs e = omega (arith, size-pos low high)
+count-set low high zero (x ∷ lows) [] e = omega (arith, size-pos low high)
+count-set low high (suc i) (x ∷ lows) [] e = omega (arith, size-pos low high)
+count-set low high zero (x ∷ lows) (y ∷ highs) e = rw (e, size-self, one-mul, mul-comm) (omega arith)
+count-set low high (suc i) (x ∷ lows) (y ∷ highs) e = rw mul-assoc (mul-le-mul-left (sizeOf x y) (count-set low high i lows highs e))
 
 -- ---- a state and its number
 
@@ -125,7 +146,7 @@ advance-within (more-values {low} {high} {value} {lows} {highs} {state} p q w) =
     more-values (m .0) (m .1) (advance-within w)
 
 -- the last state has the last number, and starts anew
-last-number : {lows highs state : List ℤ} → Within lows highs state → lastOf highs state ≡ true
+pub last-number : {lows highs state : List ℤ} → Within lows highs state → lastOf highs state ≡ true
     → (numberOf lows highs state + 1 ≡ countOf lows highs) × (advanceOf lows highs state ≡ lows)
 unfolding lastOf numberOf countOf advanceOf sizeOf
 last-number no-values e = (refl, refl)
@@ -137,7 +158,7 @@ last-number (more-values {low} {high} {value} {lows} {highs} {state} p q w) e =
     (rw (z, add-mul (offsetOf low high) 1 (countOf lows highs), one-mul) (omega (arith, ih .0)), rw (t .1, n, ih .1))
 
 -- any other moves on by one
-next-number : {lows highs state : List ℤ} → Within lows highs state → lastOf highs state ≡ false
+pub next-number : {lows highs state : List ℤ} → Within lows highs state → lastOf highs state ≡ false
     → numberOf lows highs (advanceOf lows highs state) ≡ numberOf lows highs state + 1
 unfolding lastOf numberOf advanceOf
 next-number no-values e = let z : _≡_ {A = ℕ} 0 1 = cc in absurd (omega arith)

@@ -1,5 +1,7 @@
 -- Laws of ranges and states.
 --     ranges-at, at-ranges                  no range is empty: index by index
+--     ranges-set, ranges-same, ranges-low   one more range, those that hold one state alone, and the state of the low ends
+--     within-ends                           what lies between two states of the ranges is a state
 --     within-at, at-within, within-length   a state lies within its ranges: index by index
 --     within-ranges                         where there is a state, no range is empty
 --     within-set                            a variable may take any value of its range
@@ -32,7 +34,25 @@ at-ranges [] (high ∷ highs) e f = absurd (omega arith)
 at-ranges (low ∷ lows) [] e f = absurd (omega arith)
 at-ranges (low ∷ lows) (high ∷ highs) e f = more-ranges (f 0 (omega arith)) (at-ranges lows highs (omega arith) (λ i l. f (suc i) (omega arith)))
 
+pub ranges-set : {lows highs : List ℤ} {low high : ℤ} → Ranges lows highs → (i : ℕ) → low ≤ℤ high → Ranges (set lows i low) (set highs i high)
+ranges-set no-ranges i l = no-ranges
+ranges-set (more-ranges p r) zero l = more-ranges l r
+ranges-set (more-ranges p r) (suc i) l = more-ranges p (ranges-set r i l)
+
+pub ranges-same : {lows highs state : List ℤ} → Within lows highs state → Ranges state state
+ranges-same no-values = no-ranges
+ranges-same (more-values p q w) = more-ranges (≤ℤ-refl _) (ranges-same w)
+
+pub ranges-low : {lows highs : List ℤ} → Ranges lows highs → Within lows highs lows
+ranges-low no-ranges = no-values
+ranges-low (more-ranges p r) = more-values (≤ℤ-refl _) p (ranges-low r)
+
 -- ---- states
+
+pub within-ends : {leasts mosts lows highs state : List ℤ} → Within leasts mosts lows → Within leasts mosts highs → Within lows highs state
+    → Within leasts mosts state
+within-ends no-values no-values no-values = no-values
+within-ends (more-values p q v) (more-values a b w) (more-values l h s) = more-values (≤ℤ-trans p l) (≤ℤ-trans h b) (within-ends v w s)
 
 pub within-at : {lows highs state : List ℤ} → Within lows highs state
     → (i : ℕ) → (getD lows i (pos 0) ≤ℤ getD state i (pos 0)) × (getD state i (pos 0) ≤ℤ getD highs i (pos 0))

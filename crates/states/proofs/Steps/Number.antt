@@ -1,11 +1,11 @@
 -- Counting, numbering and moving forward one variable at a time, from the last to the first: from variable i on all is done.
 -- Assumes nothing.
 use mathlib.Core.Path.{_≡_, refl, sym, ap, _∙_}
-use mathlib.Core.Bool.{true, false, cond, _&&_, and-false}
+use mathlib.Core.Bool.{Bool, true, false, cond, _&&_, and-false}
 use mathlib.Core.List.{List, [], _∷_, _++_, append-nil}
 use Prim.Native.Nat.{ℕ, zero, suc, _+_, _*_, _-_, _/_, _%_, _<_, _≤_}
 use native.Mathlib.Nat.{add-comm, mul-comm, div-div-eq-div-mul, div-one, mod-lt, mod-eq-of-lt, le-refl, le-trans, lt-of-lt-of-le, add-mul, one-mul}
-use native.Mathlib.Numerals.{sub-one}
+use native.Mathlib.Numerals.{sub-one, add-one}
 use native.Mathlib.Omega.{arith}
 use lib.Arith.{digits-div, digits-mod, mod-mul}
 use lib.IntN.{ℤ, pos, _+ℤ_}
@@ -313,3 +313,23 @@ module _ (lows highs state : List ℤ) where
           let a = f i m (omega arith) in
           let b = from n (suc i) (omega arith) (omega arith) in
           rw (sub-one, sym (a .0), set-getD) at (carried-more state (suc i) b (omega arith) (rw (sub-one, a .1) (omega ints)))
+
+-- ---- the last state: the variables before i are at their high ends
+module _ (highs state : List ℤ) (i : ℕ) where
+  abbrev pub lastFrom : Bool
+  lastFrom = lastOf (drop i highs) (drop i state)
+
+  pub last-end : length highs ≤ i → lastFrom ≡ true
+  unfolding lastOf
+  last-end l = rw (drop-of-length-le highs {i = i} l)
+
+  module _ (l : i < length highs) (m : i < length state) where
+    opened : lastFrom ≡ (leZ (getD highs i (pos 0)) (getD state i (pos 0)) && lastOf (drop (i + 1) highs) (drop (i + 1) state))
+    unfolding lastOf
+    opened = rw (add-one i, drop-cons highs i (pos 0) l, drop-cons state i (pos 0) m)
+
+    pub last-below : ltZ (getD state i (pos 0)) (getD highs i (pos 0)) ≡ true → lastFrom ≡ false
+    last-below e = let z : leZ (getD highs i (pos 0)) (getD state i (pos 0)) ≡ false = omega ints in opened ∙ rw z
+
+    pub last-next : ltZ (getD state i (pos 0)) (getD highs i (pos 0)) ≡ false → lastFrom ≡ lastOf (drop (i + 1) highs) (drop (i + 1) state)
+    last-next e = let z : leZ (getD highs i (pos 0)) (getD state i (pos 0)) ≡ true = omega ints in opened ∙ rw z

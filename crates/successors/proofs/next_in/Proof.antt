@@ -1,4 +1,4 @@
--- `successors::next_in`: a guard seen never to hold ends it; behind another one the assignments decide. Assumes nothing.
+-- `successors::next_in`: a guard seen never to hold ends it; behind another one the updates decide. Assumes nothing.
 use mathlib.Core.Path.{sym, _∙_}
 use Prim.Native.Nat.{_+_, _*_, _≤_}
 use native.Mathlib.Omega.{arith}
@@ -43,7 +43,7 @@ add-reach c = let s = (c .before .before .before .before .before) in omega (arit
 
 reach-requires : tie.Need-reach-requires
 reach-requires c κs = let s = (c .before .before .before .before .before) in
-    (s .pre .0, rw (behind-is _ _ (s .pre .0) truthSort (s .args .at + 1) _ (s .pre .1 .guard)) (s .pre .1 .assignments))
+    (s .pre .0, rw (behind-is _ _ (s .pre .0) truthSort (s .args .at + 1) _ (s .pre .1 .guard)) (s .pre .1 .updates))
 
 returns-2 : tie.Need-returns-2
 returns-2 c = let s = (c .before .before .before .before .before .before .before) in

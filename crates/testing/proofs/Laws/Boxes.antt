@@ -12,20 +12,22 @@ use lib.ListN.{length, getD, length-take}
 use lib.Seq.{getD-take}
 use lib.IntN.{ℤ}
 use Rattle.expressions.specs.Fits.{TruthFits}
-use Rattle.evaluating.specs.Step.{successorOf, enabledOf}
+use Rattle.evaluating.specs.Step.{enabledOf}
 use Rattle.evaluating.specs.Fits.{TransitionFits}
-use Rattle.evaluating.proofs.Laws.Step.{enabled-and, successor-state}
+use Rattle.evaluating.proofs.Laws.Step.{enabled-and, ends-ranges, between-state}
+use Rattle.states.proofs.Laws.State.{ranges-low}
+use Rattle.states.proofs.Laws.Between.{between-within, within-between}
 use Rattle.truths.proofs.Laws.Truth.{and-asked}
 use Rattle.boxes.specs.declared.Box.{Box}
 use Rattle.boxes.specs.Box.{Inside}
 use Rattle.domains.specs.declared.seen.Seen.the-variants.{Yes}
 use Rattle.domains.specs.Seen.{Says}
-use Rattle.domains.proofs.Laws.Seen.{either-says, implies-says, implied-says, yes-says, says-no}
+use Rattle.domains.proofs.Laws.Seen.{all-pass-says, either-says, implies-says, implied-says, yes-says, says-no}
 use Rattle.enclosures.proofs.Laws.Enclosure.{seen-said}
 use Rattle.successors.proofs.Laws.Successor.{guard-said, range-said, enabled-said, successor-inside}
 use Rattle.testing.specs.declared.Conclusion.{Conclusion}
 use Rattle.testing.specs.declared.Test.{Test}
-use Rattle.testing.proofs.Laws.Testing.{steps-apart}
+use Rattle.testing.proofs.Laws.Testing.{successors-pass, steps-apart}
 use Rattle.testing.specs.Testing.{someHolds, someIn, targetsListed, concludesOf, concludesIn, passesOf, passesIn, TestFits}
 
 -- ---- one of several truths
@@ -48,9 +50,6 @@ module _ (file : List ℕ) (ranges : Box) (test : Test) (fits : TestFits (ranges
     abbrev enabled : Bool
     enabled = enabledOf (ranges .low) (ranges .high) file (test .transition) state
 
-    successor : enabled ≡ true → Inside ranges (successorOf file (test .transition) state)
-    successor e = successor-state (ranges .low) (ranges .high) file (test .transition) state e w
-
     -- the conclusions that speak of the transition
     module _ (h : TransitionFits file (test .transition) state) where
       range-concluded : Says (concludesIn ranges file test Conclusion.ValuesInRange b)
@@ -65,8 +64,15 @@ module _ (file : List ℕ) (ranges : Box) (test : Test) (fits : TestFits (ranges
           (concludesOf (ranges .low) (ranges .high) file test Conclusion.Reached state)
       unfolding concludesIn concludesOf
       reached-concluded =
-          implies-says _ _ _ _ (enabled-said ranges file inside (test .transition) h)
-          (λ e. some-said file (successor-inside ranges file inside (test .transition) h e) (targetsListed test) (targets-fit (successor e)))
+          let at = test .transition in
+          let some = ends-ranges file at state w h in
+          rw (successors-pass (ranges .low) (ranges .high) file at state (someHolds file (targetsListed test)))
+          (implies-says _ _ _ _ (enabled-said ranges file inside at h)
+          (λ e. all-pass-says _ (someHolds file (targetsListed test)) _ _ (within-between (ranges-low some))
+          (λ next m.
+          let between = between-within some m in
+          some-said file (successor-inside ranges file inside at h e between) (targetsListed test)
+          (targets-fit (between-state (ranges .low) (ranges .high) file at state e w between)))))
 
       enabling-concluded : Says (concludesIn ranges file test Conclusion.Enabled b)
           (concludesOf (ranges .low) (ranges .high) file test Conclusion.Enabled state)

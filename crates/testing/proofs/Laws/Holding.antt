@@ -11,11 +11,12 @@ use Prim.Native.Nat.{ℕ, _<_}
 use native.Mathlib.Nat.{zero-add}
 use lib.IntN.{ℤ}
 use Rattle.truths.specs.Truth.{implies}
+use Rattle.truths.specs.Listed.{allPass}
 use Rattle.truths.proofs.Laws.Any.{any-some}
 use Rattle.diagrams.specs.declared.Diagram.{Diagram}
 use Rattle.diagrams.specs.Diagram.{edgeOf}
 use Rattle.diagrams.specs.Truth.{startHolds, nodeHolds, pHolds, qHolds}
-use Rattle.diagrams.specs.System.{guardHolds, valuesFit, isEnabled, nextState}
+use Rattle.diagrams.specs.System.{guardHolds, valuesFit, isEnabled, nextStates}
 use Rattle.conditions.specs.Edges.{carries, isDouble}
 use Rattle.conditions.specs.declared.Condition.the-variants.{Start, Entry, Cover, Range, Step, Enabling}
 use Rattle.testing.specs.Holding.{someNode, someTarget, stepLeads, conditionHolds}
@@ -38,8 +39,7 @@ module _ (file : List ℕ) (g : Diagram) (s : List ℤ) where
     unfolding conditionHolds
     range-says = refl
 
-    pub step-says : conditionHolds file g (Step n t) s
-        ≡ implies (nodeHolds file g n s && isEnabled file g t s) (stepLeads file g n t (nextState file g t s))
+    pub step-says : conditionHolds file g (Step n t) s ≡ implies (nodeHolds file g n s) (allPass (stepLeads file g n t) (nextStates file g t s))
     unfolding conditionHolds
     step-says = refl
 

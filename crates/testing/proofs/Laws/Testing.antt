@@ -1,6 +1,7 @@
 -- Laws of prepared tests.
 --     prepared      the test of a condition says what the condition says
 --     test-fits     what it speaks of can be evaluated at every state
+--     successors-pass     a test of each successor
 --     denial-says, denial-fits             the test that a truth is false says so; it can be evaluated where the truth can
 --     passes-vacuous, passes-concluded     a test passes where its premise does not hold, else by its conclusion
 --     steps-apart     a conclusion that speaks of a transition is another than one that doesn't
@@ -14,15 +15,19 @@ use lib.ListN.{length, getD, take, replicate, List·getD-append}
 use lib.Seq.{take-append-seam}
 use lib.IntN.{ℤ}
 use Rattle.truths.specs.Truth.{implies}
-use Rattle.truths.proofs.Laws.Truth.{implies-true, implies-false, implies-both, implies-own, implies-or}
+use Rattle.truths.proofs.Laws.Truth.{by-test, implies-true, implies-false, implies-own, implies-or}
+use Rattle.truths.specs.Listed.{allPass}
+use Rattle.truths.proofs.Laws.Listed.{all-pass-none, all-pass-same}
 use Rattle.states.specs.State.{Within}
+use Rattle.states.specs.Number.{statesBetween}
 use Rattle.expressions.specs.Expression.{holdsOf}
-use Rattle.evaluating.specs.Step.{successorOf, enabledOf}
+use Rattle.evaluating.specs.Step.{enabledOf, lowestOf, highestOf, successorsOf}
+use Rattle.evaluating.proofs.Laws.Step.{successors-between, successors-none}
 use Rattle.evaluating.specs.Fits.{TransitionFits}
 use Rattle.diagrams.specs.declared.Diagram.{Diagram}
 use Rattle.diagrams.specs.Diagram.{Loaded}
 use Rattle.diagrams.specs.Truth.{nodeHolds, claimedAt, qAt}
-use Rattle.diagrams.specs.System.{stepAt, guardHolds, valuesFit, isEnabled, nextState}
+use Rattle.diagrams.specs.System.{stepAt, guardHolds, valuesFit, isEnabled, nextStates}
 use Rattle.diagrams.specs.Promise.{Promise}
 use Rattle.diagrams.proofs.Laws.Diagram.{promised}
 use Rattle.diagrams.proofs.Laws.Truth.{start-at, node-at, p-at, q-at}
@@ -39,6 +44,16 @@ use Rattle.testing.specs.Testing.{marksOf, chosenFrom, targetsOf, chosen
 use Rattle.testing.specs.Testing.{FitsEverywhere, TestFits}
 use Rattle.testing.proofs.Laws.Targets.{chosen-most, chosen-each, some-node, some-reached}
 
+-- ---- a test of each successor: of none where the transition is disabled, else of each state between its ends
+pub successors-pass : (lows highs : List ℤ) (file : List ℕ) (at : ℕ) (state : List ℤ) (test : List ℤ → Bool)
+    → allPass test (successorsOf lows highs file at state)
+    ≡ implies (enabledOf lows highs file at state) (allPass test (statesBetween (lowestOf file at state) (highestOf file at state)))
+successors-pass lows highs file at state test =
+    let next = statesBetween (lowestOf file at state) (highestOf file at state) in
+    by-test (enabledOf lows highs file at state) (λ b. allPass test (successorsOf lows highs file at state) ≡ implies (enabledOf lows highs file at state) (allPass test next))
+    (λ e. rw (successors-between lows highs file at state e, e) (sym (implies-true (allPass test next))))
+    (λ e. rw (successors-none lows highs file at state e, e, all-pass-none test) (sym (implies-false (allPass test next))))
+
 -- ---- a test of a list of places
 module _ (lows highs : List ℤ) (file : List ℕ) (premise transition : ℕ) (list : List ℕ) where
   taken : take (length list) (list ++ replicate (32 - length list) 0) ≡ list
@@ -50,12 +65,10 @@ module _ (lows highs : List ℤ) (file : List ℕ) (premise transition : ℕ) (l
   some-passes state = ap (λ (l : List ℕ). implies (holdsOf file premise state) (someHolds file l state)) taken
 
   reached-passes : (state : List ℤ) → passesOf lows highs file (preparedOf premise Conclusion.Reached transition (targetsOf list)) state
-      ≡ implies (holdsOf file premise state)
-      (implies (enabledOf lows highs file transition state) (someHolds file list (successorOf file transition state)))
+      ≡ implies (holdsOf file premise state) (allPass (someHolds file list) (successorsOf lows highs file transition state))
   unfolding passesOf preparedOf targetsOf concludesOf
   reached-passes state =
-      let e = enabledOf lows highs file transition state in
-      ap (λ (l : List ℕ). implies (holdsOf file premise state) (implies e (someHolds file l (successorOf file transition state)))) taken
+      ap (λ (l : List ℕ). implies (holdsOf file premise state) (allPass (someHolds file l) (successorsOf lows highs file transition state))) taken
 
   places-fit : (conclusion : Conclusion) → FitsEverywhere lows highs file premise → length list ≤ 32
       → ((i : ℕ) → i < length list → FitsEverywhere lows highs file (getD list i 0))
@@ -109,14 +122,11 @@ module _ (file : List ℕ) (g : Diagram) (r : Loaded file g) where
     says-step : (n t : ℕ) → n < g .nodes → passesOf lows highs file (testOf file g (Step n t)) state ≡ conditionHolds file g (Step n t) state
     unfolding testOf chosenOf conditionHolds stepLeads
     says-step n t l =
-        let node = nodeHolds file g n state in
-        let enabled = isEnabled file g t state in
-        let next = nextState file g t state in
-        let keep = not (isDouble file g n t) in
-        rw (← (node-at file g state n), ← (enabled-at file g t state), ← (next-at file g t state)) at
+        rw (← (node-at file g state n), ← (next-at file g t state)) at
         (reached-passes lows highs file (assertionAt n) (stepAt g t) (reachable n t) state)
-        ∙ ap (λ (b : Bool). implies node (implies enabled b)) (some-reached file g r next n t keep l)
-        ∙ implies-both node enabled ((keep && nodeHolds file g n next) || someTarget file g n t next)
+        ∙ ap (implies (nodeHolds file g n state))
+        (all-pass-same (someHolds file (reachable n t)) (stepLeads file g n t) (nextStates file g t state)
+        (λ next m. some-reached file g r next n t (not (isDouble file g n t)) l))
 
     says-range : (n t : ℕ) → passesOf lows highs file (testOf file g (Range n t)) state ≡ conditionHolds file g (Range n t) state
     unfolding testOf conditionHolds passesOf preparedOf concludesOf

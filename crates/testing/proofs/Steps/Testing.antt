@@ -35,10 +35,14 @@ use Rattle.conditions.specs.Layout.{doubleOf}
 use Rattle.conditions.proofs.Laws.Condition.{Parts, listed-parts}
 use Rattle.conditions.proofs.Laws.Double.{double-is}
 use Rattle.testing.proofs.Laws.Targets.{chosen-last, chosen-most}
-use Rattle.evaluating.proofs.Laws.Step.{step-guard, step-enabled, step-next}
+use Rattle.evaluating.proofs.Laws.Step.{ends-ranges, between-state, step-guard, step-enabled, step-low, step-high}
 use Rattle.shapes.specs.declared.Edge.{Edge}
 use Rattle.testing.proofs.Laws.Marks.{eqb-swap, Marked, marked-hit, marked-miss}
-use Rattle.testing.proofs.Laws.Testing.{steps, steps-apart}
+use Rattle.testing.proofs.Laws.Testing.{successors-pass, steps, steps-apart}
+use Rattle.truths.specs.Listed.{allPass}
+use Rattle.states.specs.State.{Within}
+use Rattle.states.specs.Ranges.{Ranges}
+use Rattle.states.specs.Number.{statesBetween}
 use Rattle.boxes.specs.declared.Box.{Box}
 use Rattle.boxes.specs.Box.{Inside, Part}
 use Rattle.boxes.proofs.Laws.Half.{part-inside, low-inside}
@@ -182,17 +186,40 @@ module _ (lows highs : List ℤ) (file : List ℕ) (test : Test) (state : List �
     unfolding concludesOf
     concludes-enabled k = rw k enabled
 
-    pub concludes-idle : test .conclusion ≡ Conclusion.Reached → s .enabled ≡ false
-        → true ≡ concludesOf lows highs file test (test .conclusion) state
-    unfolding concludesOf
-    concludes-idle k e = rw (k, ← enabled, e) (sym (implies-false _))
+    module _ (k : test .conclusion ≡ Conclusion.Reached) where
+      pub concludes-idle : s .enabled ≡ false → true ≡ concludesOf lows highs file test (test .conclusion) state
+      unfolding concludesOf
+      concludes-idle e = rw (k, successors-pass lows highs file (test .transition) state, ← enabled, e) (sym (implies-false _))
 
-    pub concludes-reached : test .conclusion ≡ Conclusion.Reached → s .enabled ≡ true
-        → someHolds file (targetsListed test) (s .next) ≡ concludesOf lows highs file test (test .conclusion) state
-    unfolding concludesOf
-    concludes-reached k e =
-        rw (k, ← enabled, e)
-        (ap (someHolds file (targetsListed test)) (step-next lows highs file (test .transition) state is e) ∙ sym (implies-true _))
+      module _ (e : s .enabled ≡ true) where
+        pub concludes-reached : allPass (someHolds file (targetsListed test)) (statesBetween (s .low) (s .high))
+            ≡ concludesOf lows highs file test (test .conclusion) state
+        unfolding concludesOf
+        concludes-reached =
+            rw (
+              k,
+              successors-pass lows highs file (test .transition) state,
+              ← enabled,
+              e,
+              step-low lows highs file (test .transition) state is e,
+              step-high lows highs file (test .transition) state is e,
+            )
+            (sym (implies-true _))
+
+        -- what the targets ask: they can be evaluated between the ends
+        module _ (fits : TestFits lows highs file test) (w : Within lows highs state) where
+          transition-fits : TransitionFits file (test .transition) state
+          transition-fits = fits .transition (steps-apart k refl) state w
+
+          pub reached-ranges : Ranges (s .low) (s .high)
+          reached-ranges =
+              rw (step-low lows highs file (test .transition) state is e, step-high lows highs file (test .transition) state is e)
+              (ends-ranges file (test .transition) state w transition-fits)
+
+          pub reached-fits : (next : List ℤ) → Within (s .low) (s .high) next → (i : ℕ) → i < test .count → TruthFits file (getD (test .targets) i 0) next
+          reached-fits next b i l =
+              let between = rw (step-low lows highs file (test .transition) state is e, step-high lows highs file (test .transition) state is e) at b in
+              fits .targets i l next (between-state lows highs file (test .transition) state (sym enabled ∙ e) w between)
 
 -- on a box
 module _ (ranges : Box) (file : List ℕ) (test : Test) (b : Box) where

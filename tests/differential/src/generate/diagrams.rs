@@ -1,16 +1,30 @@
-//! Diagrams that establish their claims, and such as nearly do. Each has a rank: a number that no
+//! Diagrams that establish their claims, and such as nearly do. Most have a rank: a number that no
 //! transition raises, whose values the nodes share out, and that a chain's double transitions lower.
 
 use super::{
-    join, plain, range, record, value, Code, Draft, Edge, Grower, Random, Record, Transition,
-    CHAIN, DIVISIONS, INVARIANCE, WAIT_FOR,
+    join, picks, plain, range, record, value, Code, Draft, Edge, Grower, Pick, Random, Record,
+    Transition, CHAIN, DIVISIONS, INVARIANCE, WAIT_FOR,
 };
 
 /// The chance, in percent, that a part which establishes the claim is left out or is weaker.
 const GAP: usize = 3;
+/// The chance, in percent, of a diagram without a rank, for its picks.
+const FORKS: usize = 12;
 
 /// A diagram's records.
 pub fn diagram(random: &mut Random) -> Vec<Record> {
+    let draft = match random.percent(FORKS) {
+        true => picks::fork(random),
+        false => by_rank(random),
+    };
+    let mut records = draft.records();
+    for _ in 0..random.pick(&[0, 0, 0, 0, 1, 1, 1, 2]) {
+        slip(random, &mut records, draft.ranges.len());
+    }
+    records
+}
+
+fn by_rank(random: &mut Random) -> Draft {
     let ranges = small_ranges(random);
     let grower = Grower {
         random,
@@ -19,11 +33,7 @@ pub fn diagram(random: &mut Random) -> Vec<Record> {
         limits: 1,
         divisions: DIVISIONS,
     };
-    let mut records = Builder::new(grower).draft().records();
-    for _ in 0..random.pick(&[0, 0, 0, 0, 1, 1, 1, 2]) {
-        slip(random, &mut records, ranges.len());
-    }
-    records
+    Builder::new(grower).draft()
 }
 
 /// Few states; at times a few thousand.
@@ -46,6 +56,14 @@ struct Rank {
     /// Assignments that lower it by so much, wherever it is at least so much above the least.
     lowering: Vec<(u8, Code)>,
     by: i64,
+    /// A variable whose distance from the low end of its range it is, or from the high end.
+    from_end: Option<(u8, End)>,
+}
+
+#[derive(Clone, Copy, PartialEq)]
+enum End {
+    Low,
+    High,
 }
 
 struct Builder<'a> {
@@ -109,6 +127,30 @@ fn after(code: &[Record], assignments: &[(u8, Code)]) -> Code {
     new
 }
 
+/// Whether an expression names a variable.
+fn names(code: &[Record], variable: u8) -> bool {
+    code.iter().any(|record| record[..2] == [0x11, variable])
+}
+
+impl Transition {
+    /// The combinations of its picks, as assignments.
+    fn combinations(&self) -> Vec<Vec<(u8, Code)>> {
+        let mut list = vec![Vec::new()];
+        for pick in &self.picks {
+            let values = (pick.low..=pick.high).map(|one| (pick.variable, value(one.into())));
+            let values: Vec<(u8, Code)> = values.collect();
+            let with = |before: &Vec<(u8, Code)>| -> Vec<Vec<(u8, Code)>> {
+                let longer = values
+                    .iter()
+                    .map(|one| [&before[..], &[one.clone()]].concat());
+                longer.collect()
+            };
+            list = list.iter().flat_map(with).collect();
+        }
+        list
+    }
+}
+
 // ------------------------------------------------------------------------------ parts
 
 impl<'a> Builder<'a> {
@@ -141,11 +183,20 @@ impl<'a> Builder<'a> {
         let least = usize::from(self.property == CHAIN);
         lowers.extend(vec![true; least + self.grower.random.below(most)]);
         self.grower.random.shuffle(&mut lowers);
-        let transitions = lowers.iter().map(|lowers| match lowers {
-            true => self.lowering(),
-            false => self.transition(),
-        });
-        let transitions = transitions.collect();
+        // The first of those that lower the rank does so from each node from 1 up.
+        let mut first = true;
+        let mut transitions = Vec::new();
+        let mut above = Vec::new();
+        for lowers in lowers {
+            let (transition, node) = match lowers {
+                true if first || self.percent(50) => (self.lowering(), Some(0)),
+                true => self.picking(),
+                false => (self.transition(), None),
+            };
+            first &= !lowers;
+            transitions.push(transition);
+            above.push(node);
+        }
         let last = self.cuts.len() - 1;
         let truths = match self.property {
             INVARIANCE => {
@@ -177,7 +228,7 @@ impl<'a> Builder<'a> {
                 0
             },
             truths,
-            edges: self.edges(&lowers),
+            edges: self.edges(&above),
             nodes,
             ranges: self.grower.ranges.to_vec(),
         }
@@ -236,12 +287,18 @@ impl<'a> Builder<'a> {
         let mut variables: Vec<u8> = (0..self.grower.ranges.len() as u8).collect();
         self.grower.random.shuffle(&mut variables);
         variables.truncate(self.grower.random.below(4));
-        let assignments: Vec<(u8, Code)> = variables
-            .into_iter()
-            .map(|variable| (variable, self.grower.assigned(variable)))
-            .collect();
+        let mut transition = Transition::new(self.percent(60), Vec::new());
+        for variable in variables {
+            if self.percent(40) && transition.combinations().len() <= 4 {
+                let pick = self.grower.few_values(variable);
+                transition.pick(self.grower.random, pick);
+            } else {
+                let number = self.grower.assigned(variable);
+                transition.assignments.push((variable, number));
+            }
+        }
         let mut guard = vec![self.grower.truth(3, false)];
-        for (variable, number) in &assignments {
+        for (variable, number) in &transition.assignments {
             let (low, high) = self.grower.ranges[usize::from(*variable)];
             if !self.percent(GAP) {
                 guard.push(at_most(&value(low.into()), number));
@@ -250,15 +307,44 @@ impl<'a> Builder<'a> {
                 guard.push(at_most(number, &value(high.into())));
             }
         }
-        if !self.percent(GAP) {
-            let next = after(&self.rank.number, &assignments);
-            guard.push(at_most(&next, &self.rank.number));
-        }
-        Transition {
-            just: self.percent(60),
-            guard: all(&guard),
-            assignments,
-        }
+        // Whatever is picked.
+        let ranks = transition.combinations().into_iter().map(|picked| {
+            let set = [&transition.assignments[..], &picked].concat();
+            at_most(&after(&self.rank.number, &set), &self.rank.number)
+        });
+        let mut ranks: Vec<Code> = ranks.collect();
+        ranks.dedup();
+        ranks.retain(|_| !self.grower.random.percent(GAP));
+        guard.extend(ranks);
+        transition.guard = all(&guard);
+        transition
+    }
+
+    /// A just transition that is enabled at each node above one and picks a value by which the rank
+    /// is at most that one's cut; and that node. Or one that lowers the rank otherwise.
+    fn picking(&mut self) -> (Transition, Option<usize>) {
+        let (variable, end) = match self.rank.from_end {
+            Some(from_end) => from_end,
+            None => return (self.lowering(), Some(0)),
+        };
+        let node = self.grower.random.below(self.cuts.len());
+        let (low, high) = self.grower.ranges[usize::from(variable)];
+        let far = self.cuts[node] + i64::from(self.percent(5 * GAP));
+        let far = far.min(i64::from(high) - i64::from(low)) as i16;
+        let (least, greatest) = match end {
+            End::Low => (low, low + far),
+            End::High => (high - far, high),
+        };
+        let pick = Pick {
+            variable,
+            // Not each value that it could take.
+            low: least + i16::from(least < greatest && self.percent(30)),
+            high: greatest,
+            behind: 0,
+        };
+        let mut transition = Transition::new(true, self.above(node));
+        transition.picks.push(pick);
+        (transition, Some(node))
     }
 
     /// A just transition that lowers the rank and is enabled at each node from 1 up.
@@ -272,24 +358,30 @@ impl<'a> Builder<'a> {
             4 if self.percent(5 * GAP) => all(&[above, self.grower.truth(2, false)]),
             _ => above,
         };
-        Transition {
-            just: true,
-            guard,
-            assignments: self.rank.lowering.clone(),
+        let mut transition = Transition::new(true, guard);
+        transition.assignments = self.rank.lowering.clone();
+        let other = self.grower.random.below(self.grower.ranges.len()) as u8;
+        let mut assigned = transition.assignments.iter();
+        let set = assigned.any(|(variable, _)| *variable == other);
+        if !set && !names(&self.rank.number, other) && self.percent(60) {
+            let pick = self.grower.few_values(other);
+            transition.pick(self.grower.random, pick);
         }
+        transition
     }
 
     /// Edges by the rules, most of them or all. Those that lower the rank are, in a chain, double
-    /// transitions of some nodes.
-    fn edges(&mut self, lowers: &[bool]) -> Vec<Edge> {
+    /// transitions of some nodes above the one that is given.
+    fn edges(&mut self, above: &[Option<usize>]) -> Vec<Edge> {
         let random = &mut *self.grower.random;
-        let lowering: Vec<usize> = (0..lowers.len()).filter(|&at| lowers[at]).collect();
         let kept = random.pick(&[100, 100, 90, 50, 10]);
         let nodes = self.cuts.len();
         let mut edges = Vec::new();
         for from in usize::from(self.property != INVARIANCE)..nodes {
+            let lowers = |at: &usize| above[*at].map_or(false, |node| node < from);
+            let lowering: Vec<usize> = (0..above.len()).filter(lowers).collect();
             let double = (self.property == CHAIN).then(|| random.pick(&lowering));
-            for transition in 0..lowers.len() {
+            for transition in 0..above.len() {
                 let double = double == Some(transition);
                 let targets = match self.property {
                     INVARIANCE => nodes,
@@ -331,6 +423,7 @@ fn rank(grower: &mut Grower, property: u8) -> Rank {
                 least: 0,
                 lowering: vec![(first, lower)],
                 by,
+                from_end: Some((first, End::Low)),
             }
         }
         1 => {
@@ -341,6 +434,7 @@ fn rank(grower: &mut Grower, property: u8) -> Rank {
                 least: 0,
                 lowering: vec![(first, higher)],
                 by,
+                from_end: Some((first, End::High)),
             }
         }
         2 if ranges.len() > 1 => {
@@ -362,6 +456,7 @@ fn rank(grower: &mut Grower, property: u8) -> Rank {
                     (second, difference(&variable(second), &rests)),
                 ],
                 by: 1,
+                from_end: None,
             }
         }
         3 => {
@@ -373,6 +468,7 @@ fn rank(grower: &mut Grower, property: u8) -> Rank {
                 least: -(-i64::from(ranges[number].0)).div_euclid(divisor),
                 lowering: vec![(first, difference(&variable(first), &value(divisor)))],
                 by: 1,
+                from_end: None,
             }
         }
         4 => {
@@ -384,6 +480,7 @@ fn rank(grower: &mut Grower, property: u8) -> Rank {
                 least: 0,
                 lowering: vec![(first, difference(&variable(first), &value(1)))],
                 by: 1,
+                from_end: None,
             }
         }
         _ if property != CHAIN => {
@@ -393,6 +490,7 @@ fn rank(grower: &mut Grower, property: u8) -> Rank {
                 least: least + grower.random.below(4) as i64,
                 lowering: Vec::new(),
                 by: 1,
+                from_end: None,
             }
         }
         _ => Rank {
@@ -400,6 +498,7 @@ fn rank(grower: &mut Grower, property: u8) -> Rank {
             least: 0,
             lowering: vec![(first, low.clone())],
             by: 1,
+            from_end: Some((first, End::Low)),
         },
     };
     // A variable that the rank may not speak of gets a value too.
@@ -408,8 +507,7 @@ fn rank(grower: &mut Grower, property: u8) -> Rank {
         .lowering
         .iter()
         .any(|(variable, _)| usize::from(*variable) == other);
-    let named = |record: &Record| record[0] == 0x11 && usize::from(record[1]) == other;
-    if !taken && !rank.number.iter().any(named) && grower.random.percent(30) {
+    if !taken && !names(&rank.number, other as u8) && grower.random.percent(30) {
         let (low, high) = ranges[other];
         let constant = value(grower.random.within(low.into(), high.into()));
         rank.lowering.push((other as u8, constant));
@@ -456,6 +554,8 @@ fn slip(random: &mut Random, records: &mut Vec<Record>, variables: usize) {
     let other = match kind {
         0x01 => record(kind, a, b, beside(random, c), d),
         0x03 => record(kind, 1 - a, b, c, d),
+        0x08 if random.percent(50) => record(kind, a, beside(random, b), c, d),
+        0x08 => record(kind, a, b, beside(random, c), d),
         0x07 if random.percent(30) => record(kind, a, b, beside(random, c), d),
         0x07 => {
             records.remove(at);

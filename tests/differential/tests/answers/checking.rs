@@ -32,8 +32,7 @@ fn step(just: u8, guard: &Records, added: i16) -> Records {
     [vec![r(0x03, just)], guard.clone(), assigned.to_vec()].concat()
 }
 
-/// A file: the range of variable 0, the start, transitions, the property with its a, b and truths,
-/// the nodes, and edges: transition, from, to, d.
+/// A file with one variable, in this range.
 fn file(
     range: (i16, i16),
     start: Records,
@@ -42,20 +41,7 @@ fn file(
     nodes: &[Records],
     edges: &[(u8, i16, i16, u8)],
 ) -> Vec<u8> {
-    let (a, b, truths) = property;
-    let mut records = vec![record(0x01, 0, range.0, range.1, 0), r(0x02, 0)];
-    records.extend(start);
-    records.extend(transitions.concat());
-    records.push(record(0x05, a, b, 0, 0));
-    records.extend(truths.concat());
-    for node in nodes {
-        records.push(r(0x06, 0));
-        records.extend(node);
-    }
-    for &(transition, from, to, d) in edges {
-        records.push(record(0x07, transition, from, to, d));
-    }
-    records.concat()
+    super::file(&[range], start, transitions, property, nodes, edges)
 }
 
 /// A broken condition: number, node, transition, condition, the value of variable 0, and the tests.

@@ -5,9 +5,11 @@ mod checking;
 mod counting;
 mod evaluating;
 mod examples;
+mod picks;
 mod refusals;
 
 use differential::compare::{proved_check, proved_single};
+use differential::generate::record;
 use independent::{Tested, Verdict};
 
 type Records = Vec<[u8; 8]>;
@@ -18,6 +20,34 @@ const CHECKERS: [(&str, Check, Single); 2] = [
     ("proved", proved_check, proved_single),
     ("independent", independent::check, independent::single),
 ];
+
+/// A file: the ranges of its variables, the start, transitions, the property with its a, b and
+/// truths, the nodes, and edges: transition, from, to, d.
+fn file(
+    ranges: &[(i16, i16)],
+    start: Records,
+    transitions: &[Records],
+    property: (u8, i16, &[Records]),
+    nodes: &[Records],
+    edges: &[(u8, i16, i16, u8)],
+) -> Vec<u8> {
+    let (a, b, truths) = property;
+    let range = |&(low, high): &(i16, i16)| record(0x01, 0, low, high, 0);
+    let mut records: Records = ranges.iter().map(range).collect();
+    records.push(record(0x02, 0, 0, 0, 0));
+    records.extend(start);
+    records.extend(transitions.concat());
+    records.push(record(0x05, a, b, 0, 0));
+    records.extend(truths.concat());
+    for node in nodes {
+        records.push(record(0x06, 0, 0, 0, 0));
+        records.extend(node);
+    }
+    for &(transition, from, to, d) in edges {
+        records.push(record(0x07, transition, from, to, d));
+    }
+    records.concat()
+}
 
 /// C12.6: a refusal that names no condition.
 fn refusal(number: u8, place: u32) -> Verdict {

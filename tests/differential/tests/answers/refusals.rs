@@ -260,7 +260,7 @@ fn levels() {
     refused(5, 18, &nots(0, &[mixed, open].concat()));
 }
 
-/// C1.9, C10.6, C11.2.
+/// C1.17, C10.6, C11.2.
 #[test]
 fn repeats() {
     // Assigned again.

@@ -114,12 +114,17 @@ pub fn start(truth: Bytes) -> Bytes {
     with(0x02, &[truth])
 }
 
-pub fn transition(just: u8, guard: Bytes, assignments: &[Bytes]) -> Bytes {
-    [record(0x03, just, 0, 0, 0), guard, assignments.concat()].concat()
+/// A guard, then assignments and picks.
+pub fn transition(just: u8, guard: Bytes, sets: &[Bytes]) -> Bytes {
+    [record(0x03, just, 0, 0, 0), guard, sets.concat()].concat()
 }
 
 pub fn assign(variable: u8, number: Bytes) -> Bytes {
     [record(0x04, variable, 0, 0, 0), number].concat()
+}
+
+pub fn pick(variable: u8, low: i16, high: i16) -> Bytes {
+    record(0x08, variable, low, high, 0)
 }
 
 pub fn invariance(q: Bytes) -> Bytes {
@@ -218,4 +223,20 @@ pub fn unnamed(file: &[u8]) -> (u8, u32) {
 pub fn named(file: &[u8]) -> (u8, u8, u8, u32) {
     let verdict = verdict(file);
     (verdict.number, verdict.node, verdict.transition, verdict.at)
+}
+
+/// C11.1: 2 to 6 and 19 are tried before the refusal that the file meets by itself. It has one node
+/// and no edges, and behind its first `cut` records another one must stand.
+pub fn records_come_first(file: &Bytes, refusal: (u8, u32), cut: u32) {
+    let and = |more: Bytes| unnamed(&join(&[file.clone(), more]));
+    let place = count(file);
+    assert_eq!(unnamed(file), refusal);
+    assert_eq!(and(vec![0]), (2, 0));
+    assert_eq!(and(yes()), (3, place));
+    assert_eq!(unnamed(&file[..8 * cut as usize]), (3, cut));
+    assert_eq!(and(single_edge(0, 0, 1)), (4, place));
+    assert_eq!(and(node(yes()).repeat(32)), (5, place + 62));
+    assert_eq!(and(single_edge(0, 0, 0).repeat(2)), (6, place + 1));
+    let by_zero = less(quotient(value(0), constant(0)), constant(1));
+    assert_eq!(and(node(by_zero)), (19, place + 4));
 }

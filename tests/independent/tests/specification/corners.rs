@@ -16,8 +16,9 @@ fn every_kind() -> Bytes {
     let truths = and(or(no(), yes()), implies(not(yes()), iff(yes(), no())));
     join(&[
         variable(0, 2),
+        variable(-1, 0),
         start(less(product(value(0), constant(2)), numbers)),
-        transition(1, truths, &[assign(0, value(0))]),
+        transition(1, truths, &[pick(1, -1, 0), assign(0, value(0))]),
         invariance(or(
             equal(value(0), value(0)),
             at_most(value(0), constant(1)),
@@ -31,6 +32,7 @@ fn every_kind() -> Bytes {
 fn named_bytes(kind: u8) -> &'static [usize] {
     match kind {
         0x01 => &[2, 3, 4, 5],
+        0x08 => &[1, 2, 3, 4, 5],
         0x03 | 0x04 | 0x05 | 0x11 => &[1],
         0x07 => &[1, 2, 3, 4, 5, 6],
         0x10 => &[2, 3],

@@ -2,7 +2,7 @@
 
 use crate::builder::*;
 use crate::refusals::by_stages;
-use independent::{number, read, single, successor, truth};
+use independent::{number, read, single, successors, truth};
 use independent::{File, Refusal, State, Tested, Truth};
 
 /// Quotient and remainder.
@@ -245,9 +245,9 @@ fn in_assigned_values() {
             node(yes()),
         ]);
         let file = read(&file).unwrap();
-        let next = |state: State| successor(&file.transitions[0], &file.variables, &state);
+        let next = |state: State| successors(&file.transitions[0], &file.variables, &state);
         let states = independent::states(&file.variables);
-        states.map(|state| Some(next(state)?[0])).collect()
+        states.map(|state| Some(next(state).first()?[0])).collect()
     };
     // -2..2 goes round: v + 3 leaves 1 to 4 and 0 by 5, and that less 2.
     let ahead = remainder(sum(value(0), constant(3)), constant(5));

@@ -8,6 +8,7 @@ mod counting;
 mod division;
 mod examples;
 mod limits;
+mod picks;
 mod refusals;
 mod runs;
 mod start;

@@ -1,4 +1,4 @@
-//! Refusals 3 to 12: numbers, places, order. 19 is in division.rs, 20 in start.rs.
+//! Refusals 3 to 12: numbers, places, order. 19 is in division.rs, 20 in start.rs, 22 in picks.rs.
 
 use crate::builder::*;
 use crate::examples;
@@ -25,7 +25,7 @@ fn each_end_inside_b_is_early() {
 #[test]
 fn a_kind_that_fits_no_place() {
     for record in 0..21 {
-        for kind in [0x00, 0x08, 0x0f, 0x16, 0x17, 0x1a, 0x1f, 0x2a, 0xff] {
+        for kind in [0x00, 0x09, 0x0f, 0x16, 0x17, 0x1a, 0x1f, 0x2a, 0xff] {
             let file = with_byte(examples::b(), record, 0, kind);
             assert_eq!(unnamed(&file), (3, record as u32));
         }
@@ -134,7 +134,7 @@ fn names_that_the_file_lacks() {
     assert_eq!(unnamed(&join(&[base, single_edge(0, 0, 0)])), (0, 4));
 }
 
-/// C1.9, C10.6.
+/// C1.17, C10.6.
 #[test]
 fn a_variable_assigned_again() {
     let twice = transition(0, yes(), &[assign(0, value(0)), assign(0, value(0))]);

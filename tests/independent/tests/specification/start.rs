@@ -137,17 +137,7 @@ fn integer(value: i32) -> Bytes {
 #[test]
 fn behind_what_is_tried_by_records() {
     let [file, ..] = files(&[variable(0, 2)], no());
-    let and = |more: Bytes| unnamed(&join(&[file.clone(), more]));
-    let place = count(&file);
-    assert_eq!(unnamed(&file), (20, 0));
-    assert_eq!(and(vec![0]), (2, 0));
-    assert_eq!(and(yes()), (3, place));
-    assert_eq!(unnamed(&file[..8 * 4]), (3, 4));
-    assert_eq!(and(single_edge(0, 0, 1)), (4, place));
-    assert_eq!(and(node(yes()).repeat(32)), (5, place + 62));
-    assert_eq!(and(single_edge(0, 0, 0).repeat(2)), (6, place + 1));
-    let by_zero = less(quotient(value(0), constant(0)), constant(1));
-    assert_eq!(and(node(by_zero)), (19, place + 4));
+    records_come_first(&file, (20, 0), 4);
 }
 
 /// C11.1, C13.2: 11 and 12 come behind it.

@@ -23,10 +23,7 @@ loop-holds : tie.Need-loop-holds Inv-loop μ-loop
 loop-holds c = (refl, omega arith)
 
 range-size-requires : tie.Need-range-size-requires Inv-loop μ-loop
-range-size-requires c κs =
-    let r = c .before .before .before .pre in
-    let i = c .before .loop .inv in
-    (omega arith, r .ordered _ (omega arith))
+range-size-requires c κs = omega (arith, c .before .before .before .pre, c .before .loop .inv)
 
 mul-next : tie.Need-mul-next Inv-loop μ-loop
 mul-next c = record { fits = product-fits _ _ (c .before .before .loop .inv .1 .1) (c .range-size .ensures .1) }

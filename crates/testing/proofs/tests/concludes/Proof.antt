@@ -3,9 +3,9 @@
 use borrow.Author.Needs.{needs}
 use mathlib.Core.Path.{refl, _∙_}
 use borrow.Author.Tests.{not-true, not-false}
-use Rattle.evaluating.proofs.Laws.Step.{step-within}
 use Rattle.testing.proofs.Laws.Testing.{steps-apart}
 use Rattle.testing.proofs.Steps.Testing.{concludes-some, concludes-range, concludes-idle, concludes-reached, concludes-enabled}
+use Rattle.testing.proofs.Steps.Testing.{reached-ranges, reached-fits}
 use Rattle.testing.proofs.tests.concludes.Statement.{statement}
 use Rattle.testing.proofs.tests.concludes.Tie as tie
 
@@ -35,11 +35,13 @@ returns : tie.Need-returns
 returns c =
     concludes-idle _ _ _ _ _ (c .before .before .step2 .ensures) (c .before .before .before .enum-told3 .given .1) (not-true _ (c .if1 .taken))
 
-some-holds-requires-2 : tie.Need-some-holds-requires-2
-some-holds-requires-2 c κs =
-    let p = c .before .before .before .before .before .before .before .before .pre in
-    let w = step-within _ _ _ _ _ (c .before .before .before .step2 .ensures) (not-false _ (c .before .if1 .left)) (p .1 .0) in
-    (p .0, (p .1 .1 .few, λ i l. p .1 .1 .targets i l _ w))
+all-hold-requires : tie.Need-all-hold-requires
+all-hold-requires c κs =
+    let p = c .before .before .before .before .before .before .before .before .before .pre in
+    let enabled = not-false _ (c .before .before .if1 .left) in
+    let conclusion = c .before .before .before .before .before .enum-told3 .given .1 in
+    let ranges = reached-ranges _ _ _ _ _ (c .before .before .before .before .step2 .ensures) conclusion enabled (p .1 .1) (p .1 .0) in
+    (p .0, (p .1 .1 .few, (ranges, reached-fits _ _ _ _ _ (c .before .before .before .before .step2 .ensures) conclusion enabled (p .1 .1) (p .1 .0))))
 
 enum-told-4 : tie.Need-enum-told-4
 enum-told-4 c = search needs
@@ -56,10 +58,7 @@ returns-3 : tie.Need-returns-3
 returns-3 c = concludes-range _ _ _ _ _ (c .before .before .step .ensures) (c .before .before .before .enum-told2 .given .1)
 
 returns-4 : tie.Need-returns-4
-returns-4 c =
-    c .some-holds2 .ensures
-    ∙ concludes-reached _ _ _ _ _ (c .before .before .before .before .step2 .ensures)
-    (c .before .before .before .before .before .enum-told3 .given .1) (not-false _ (c .before .before .if1 .left))
+returns-4 c = c .all-hold .ensures ∙ concludes-reached _ _ _ _ _ (c .before .before .before .before .before .step2 .ensures) (c .before .before .before .before .before .before .enum-told3 .given .1) (not-false _ (c .before .before .before .if1 .left))
 
 returns-5 : tie.Need-returns-5
 returns-5 c = concludes-enabled _ _ _ _ _ (c .step3 .ensures) (c .before .enum-told4 .given .1)
@@ -75,7 +74,7 @@ concludes-spec =
     enum-told-3
     step-requires-2
     returns
-    some-holds-requires-2
+    all-hold-requires
     enum-told-4
     step-requires-3
     returns-2

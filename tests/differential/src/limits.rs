@@ -701,6 +701,27 @@ fn starts(list: &mut List) {
     }
 }
 
+/// C10.8: a product out of bounds in the last node, and its place.
+fn with_interval(mut draft: Draft) -> (Draft, usize) {
+    let out = join(0x14, &[&vec![constant(1001)], &vec![constant(1000)]]);
+    draft.nodes[1] = join(0x28, &[&out, &value(0)]);
+    // Behind the product stand three numbers, and the edge of a chain.
+    let place = draft.records().len() - 4 - draft.edges.len();
+    (draft, place)
+}
+
+/// C10.9: a double edge from node 0, and its place.
+fn with_edge(mut draft: Draft) -> (Draft, usize) {
+    draft.edges.push(Edge {
+        transition: 0,
+        from: 0,
+        to: 1,
+        double: true,
+    });
+    let place = draft.records().len() - 1;
+    (draft, place)
+}
+
 /// C11.1: 20 with 7 to 10, and with conditions that are broken.
 fn starts_and_others(list: &mut List) {
     for property in [INVARIANCE, WAIT_FOR, CHAIN] {
@@ -709,21 +730,9 @@ fn starts_and_others(list: &mut List) {
         let mut states = bad();
         states.ranges = vec![(0, 1023), (0, 1024)];
         list.refused(&name("too many states"), states.records(), 7, 1);
-        let mut interval = bad();
-        let out = join(0x14, &[&vec![constant(1001)], &vec![constant(1000)]]);
-        interval.nodes[1] = join(0x28, &[&out, &value(0)]);
-        let records = interval.records();
-        // Behind the product stand three constants, and the edge of a chain.
-        let place = records.len() - 4 - interval.edges.len();
-        list.refused(&name("an interval"), records, 8, place);
-        let mut edge = bad();
-        edge.edges.push(Edge {
-            transition: 0,
-            from: 0,
-            to: 1,
-            double: true,
-        });
-        let place = edge.records().len() - 1;
+        let (interval, place) = with_interval(bad());
+        list.refused(&name("an interval"), interval.records(), 8, place);
+        let (edge, place) = with_edge(bad());
         list.refused(&name("an edge"), edge.records(), 9, place);
         let mut broken = bad();
         broken.truths.fill(never());
@@ -976,19 +985,9 @@ fn combinations_and_others(list: &mut List) {
                 let refusal = refusal.map(|(number, place)| (number, place as u32));
                 list.add(&name(text), draft.records().concat(), refusal);
             };
-            let mut interval = new().0;
-            let out = join(0x14, &[&vec![constant(1001)], &vec![constant(1000)]]);
-            interval.nodes[1] = join(0x28, &[&out, &value(0)]);
-            let place = interval.records().len() - 4 - interval.edges.len();
+            let (interval, place) = with_interval(new().0);
             add("an interval", interval, Some((8, place)));
-            let mut edge = new().0;
-            edge.edges.push(Edge {
-                transition: 0,
-                from: 0,
-                to: 1,
-                double: true,
-            });
-            let place = edge.records().len() - 1;
+            let (edge, place) = with_edge(new().0);
             add("an edge", edge, Some((9, place)));
             let mut no_start = new().0;
             no_start.start = never();

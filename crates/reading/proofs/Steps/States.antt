@@ -2,12 +2,18 @@
 -- Assumes nothing.
 use mathlib.Core.Path.{_≡_, refl}
 use mathlib.Core.List.{List}
-use Prim.Native.Nat.{ℕ, zero, suc, _+_, _-_, _*_, _<_, _≤_}
+use Prim.Native.Nat.{ℕ, zero, suc, _+_, _-_, _*_, _<_, _≤_, _^_}
+use native.Mathlib.Nat.{mul-le-mul, lt-of-le-of-lt}
 use native.Mathlib.Numerals.{sub-one}
 use native.Mathlib.Omega.{arith}
 use borrow.Author.Tests.{le-leb, lt-leb}
+use lib.Dec.{lit<}
 use Rattle.records.specs.declared.walk.Walked.the-variants.{End, Refused}
 use Rattle.reading.specs.States.{sizeAt, statesOf}
+
+-- a product so far, within its limit, times a range's size
+pub product-fits : (a b : ℕ) → a ≤ 1048576 → b ≤ 65536 → a * b < 2 ^ 64
+product-fits a b p q = lt-of-le-of-lt (mul-le-mul p q) (lit< tt)
 
 pub states-none : (file : List ℕ) (left at product : ℕ) → left ≤ 0 → statesOf file left at product ≡ End product
 unfolding statesOf

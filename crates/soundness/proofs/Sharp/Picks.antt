@@ -4,9 +4,9 @@
 --     taken-idle          idling takes a transition that may pick the values at hand (C6.4)
 --     idle-just           so to idle there for ever is to be k-just for each k (C6.6)
 --                           claim
+--     never-left          false     a chain whose step may pick the values at hand
 --     lowest-left         false     an invariance that only the pick's lowest value breaks
 --     highest-left        false     only its highest
---     never-left          false     a chain whose step may pick the values at hand
 -- Assumes nothing.
 use mathlib.Core.Path.{_≡_, refl}
 use mathlib.Core.Logic.{inl, inr}
@@ -16,7 +16,7 @@ use native.Mathlib.Omega.{arith}
 use lib.Dec.{lit<, lit≤}
 use lib.IntN.{ℤ}
 use Rattle.diagrams.specs.System.{nextStates}
-use Rattle.diagrams.proofs.Files.{double, plain, true}
+use Rattle.diagrams.proofs.Files.{double, plain}
 use Rattle.diagrams.proofs.Values.{v, state}
 use Rattle.runs.specs.Run.{System, finite, endless, Taken, KJust}
 use Rattle.soundness.specs.System.{systemOf, Claim}
@@ -24,14 +24,17 @@ use Rattle.soundness.proofs.Sharp.Computing.{claiming}
 use Rattle.soundness.proofs.Laws.System.{step-run, idle-run}
 use Rattle.soundness.proofs.Sharp.Files.{Case, is, invariance, chain, picking, file, diagram, loaded, refuted}
 
--- ---- the system
-abbrev any : Case
-any = picking (invariance (true ∷ []) ((true ∷ []) ∷ []))
+-- ---- the system, with a chain from v = 1 to another value: its step is just and enabled, and may lead back
+abbrev not : List (List ℕ) → List (List ℕ)
+not x = plain 0x22 ∷ x
+
+abbrev onward : Case
+onward = picking (chain (is 1) (not (is 1)) (not (is 1) ∷ is 1 ∷ []) (double 0 1 0 ∷ []))
 
 abbrev M : System
-M = systemOf (file any) (diagram any)
+M = systemOf (file onward) (diagram onward)
 
-pub picked : (nextStates (file any) (diagram any) 0 (v 1) ≡ v 0 ∷ v 1 ∷ v 2 ∷ []) × (nextStates (file any) (diagram any) 0 (v 0) ≡ [])
+pub picked : (nextStates (file onward) (diagram onward) 0 (v 1) ≡ v 0 ∷ v 1 ∷ v 2 ∷ []) × (nextStates (file onward) (diagram onward) 0 (v 0) ≡ [])
 unfolding claiming
 picked = (refl, refl)
 
@@ -41,15 +44,18 @@ taken-idle n = (tt, inr (inl refl))
 
 pub idle-just : (k : ℕ) → 1 ≤ k → KJust M k (λ i. v 1)
 unfolding claiming
-idle-just k one zero l just n = (0, omega arith, inr (tt, inr (inl refl)))
+idle-just k one zero l just n = (0, omega arith, inr (taken-idle (n + 0)))
 idle-just k one (suc t) l just n = absurd (omega arith)
+
+pub never-left : Claim (file onward) → ⊥
+unfolding claiming
+never-left = refuted onward refl (λ c.
+    let run = idle-run (file onward) (diagram onward) (v 1) (state (lit≤ tt)) in
+    c .0 .bounded 1 (omega arith) (λ i. v 1) run (idle-just 1 (omega arith)) 0 tt .2 .2)
 
 -- ---- invariances: v is not n, from v = 1 on
 abbrev avoids : List (List ℕ) → Case
 avoids q = picking (invariance q (q ∷ []))
-
-abbrev not : List (List ℕ) → List (List ℕ)
-not x = plain 0x22 ∷ x
 
 pub lowest-left : Claim (file (avoids (not (is 0)))) → ⊥
 unfolding claiming
@@ -64,17 +70,3 @@ highest-left = refuted (avoids (not (is 2))) refl (λ c.
     let run = step-run (file (avoids (not (is 2)))) (diagram (avoids (not (is 2)))) (loaded (avoids (not (is 2))) refl) (v 1) (state (lit≤ tt)) 0 (lit< tt) (v 2)
     (tt, inr (inr (inl refl))) in
     c .0 (finite (v 1) (v 2 ∷ [])) run tt 1 (lit< tt))
-
--- ---- a chain from v = 1 to another value: its step is just and enabled, and may lead back
-abbrev onward : Case
-onward = picking (chain (is 1) (not (is 1)) (not (is 1) ∷ is 1 ∷ []) (double 0 1 0 ∷ []))
-
-pub never-left : Claim (file onward) → ⊥
-unfolding claiming
-never-left = refuted onward refl (λ c.
-    let run = idle-run (file onward) (diagram onward) (v 1) (state (lit≤ tt)) in
-    c .0 .bounded 1 (omega arith) (λ i. v 1) run just 0 tt .2 .2)
-  where
-    just : KJust (systemOf (file onward) (diagram onward)) 1 (λ i. v 1)
-    just zero l j n = (0, omega arith, inr (tt, inr (inl refl)))
-    just (suc t) l j n = absurd (omega arith)

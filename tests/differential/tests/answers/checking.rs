@@ -1,7 +1,7 @@
 //! Verdicts with their tests, reports and single tests.
 
 use super::examples::example;
-use super::{acceptance, answers, refusal, report, tests, Records, CHECKERS};
+use super::{acceptance, answers, file, refusal, report, tests, Records, CHECKERS};
 use differential::generate::record;
 use independent::{Tested, Verdict};
 
@@ -30,18 +30,6 @@ fn always() -> Records {
 fn step(just: u8, guard: &Records, added: i16) -> Records {
     let assigned = [r(0x04, 0), r(0x12, 0), r(0x11, 0), constant(added)];
     [vec![r(0x03, just)], guard.clone(), assigned.to_vec()].concat()
-}
-
-/// A file with one variable, in this range.
-fn file(
-    range: (i16, i16),
-    start: Records,
-    transitions: &[Records],
-    property: (u8, i16, &[Records]),
-    nodes: &[Records],
-    edges: &[(u8, i16, i16, u8)],
-) -> Vec<u8> {
-    super::file(&[range], start, transitions, property, nodes, edges)
 }
 
 /// A broken condition: number, node, transition, condition, the value of variable 0, and the tests.
@@ -224,21 +212,28 @@ fn start_entry_cover() {
     // Invariance: start v at most 1, node v = 0.
     let at_most = compare(0x29, 1);
     let property = (1, 0, &[always()][..]);
-    let inv = file((0, 2), at_most.clone(), &[], property, &[equal(0)], &[]);
+    let inv = file(&[(0, 2)], at_most.clone(), &[], property, &[equal(0)], &[]);
     broken(&inv, 13, 255, 255, 0, 1, 2);
     holds(&inv, 0, &[true, false, true]);
     // The lowest condition, though a lower state breaks a higher one: node 1 is v = -3, q v = -2.
     let nodes = [equal(-2), equal(-3)];
-    let inv = file((-3, 0), equal(0), &[], (1, 0, &[equal(-2)]), &nodes, &[]);
+    let inv = file(&[(-3, 0)], equal(0), &[], (1, 0, &[equal(-2)]), &nodes, &[]);
     broken(&inv, 13, 255, 255, 0, 0, 4);
     holds(&inv, 2, &[false, true, true, true]);
-    let inv = file((-3, 0), equal(-3), &[], (1, 0, &[equal(-2)]), &nodes, &[]);
+    let inv = file(
+        &[(-3, 0)],
+        equal(-3),
+        &[],
+        (1, 0, &[equal(-2)]),
+        &nodes,
+        &[],
+    );
     broken(&inv, 15, 1, 255, 2, -3, 9);
 
     // Wait-for: p v at most 1, q_0 v = 1, q_1 v = 0; nodes v = 1 and v = 0. The start is no matter.
     let truths = [at_most.clone(), equal(1), equal(0)];
     let nodes = [equal(1), equal(0)];
-    let wait_for = |truths: &[Records]| file((0, 2), always(), &[], (2, 2, truths), &nodes, &[]);
+    let wait_for = |truths: &[Records]| file(&[(0, 2)], always(), &[], (2, 2, truths), &nodes, &[]);
     accepted(&wait_for(&truths), 3, 9);
     broken(
         &wait_for(&[always(), equal(1), equal(0)]),
@@ -256,7 +251,7 @@ fn start_entry_cover() {
     // With one phase q_0 holds where p does.
     let one = |q| {
         file(
-            (0, 2),
+            &[(0, 2)],
             always(),
             &[],
             (2, 1, &[equal(1), q]),
@@ -272,7 +267,7 @@ fn start_entry_cover() {
     let chain = |p, q, node| {
         let nodes = [node, equal(1)];
         let edges = [(0, 1, 0, 1)];
-        file((0, 1), always(), &down, (3, 0, &[p, q]), &nodes, &edges)
+        file(&[(0, 1)], always(), &down, (3, 0, &[p, q]), &nodes, &edges)
     };
     broken(&chain(always(), always(), equal(1)), 14, 255, 255, 0, 0, 1);
     broken(&chain(equal(1), equal(0), equal(1)), 15, 0, 255, 1, 1, 4);
@@ -316,7 +311,16 @@ fn no_start() {
         [vec![r(0x22, 0)], compare(0x29, 0)].concat(),
     ];
     for (number, transitions, (a, b, truths), nodes, edges) in cases {
-        let with = |start| file((-1, 2), start, transitions, (a, b, &truths), nodes, edges);
+        let with = |start| {
+            file(
+                &[(-1, 2)],
+                start,
+                transitions,
+                (a, b, &truths),
+                nodes,
+                edges,
+            )
+        };
         for (name, check, _) in CHECKERS {
             let found = check(&with(equal(2)), &mut [0; 32]).number;
             assert_eq!(found, number, "{name}");
@@ -353,7 +357,7 @@ fn range_and_step() {
     let nodes = [equal(0), equal(1)];
     let inv = |edges: &[_]| {
         let property = (1, 0, &[always()][..]);
-        file((0, 1), equal(0), &transitions, property, &nodes, edges)
+        file(&[(0, 1)], equal(0), &transitions, property, &nodes, edges)
     };
     // 0 start, 1 and 2 cover, 3 to 10 range and step by node, by transition. Without an edge the
     // node must be kept.
@@ -372,7 +376,7 @@ fn range_and_step() {
     let nodes = [equal(1), equal(0)];
     let wait_for = |edges: &[_]| {
         let property = (2, 2, &truths[..]);
-        file((0, 1), equal(0), &transitions, property, &nodes, edges)
+        file(&[(0, 1)], equal(0), &transitions, property, &nodes, edges)
     };
     broken(&wait_for(&[]), 17, 1, 0, 4, 0, 9);
     accepted(&wait_for(&[(0, 1, 0, 0), (1, 1, 0, 0)]), 7, 14);
@@ -386,7 +390,7 @@ fn double_and_enabling() {
     let edges = [(0, 2, 1, 1), (0, 1, 0, 1)];
     let chain = |transitions: &[Records], nodes: &[Records]| {
         let property = (3, 0, &[always(), equal(2)][..]);
-        file((0, 2), equal(0), transitions, property, nodes, &edges)
+        file(&[(0, 2)], equal(0), transitions, property, nodes, &edges)
     };
     accepted(&chain(&[step(1, &compare(0x28, 2), 1)], &nodes), 8, 24);
     // Enabling comes behind the step of the double transition: 2 range, 3 step, 4 enabling of node 1.
@@ -419,13 +423,13 @@ fn going_round() {
     let nodes = [equal(2), equal(1), equal(0)];
     let edges = [(0, 2, 1, 1), (0, 1, 0, 1)];
     let property = (3, 0, &[always(), equal(2)][..]);
-    let chain = |step| file((0, 2), equal(0), &[step], property, &nodes, &edges);
+    let chain = |step| file(&[(0, 2)], equal(0), &[step], property, &nodes, &edges);
     accepted(&chain(round(3)), 8, 24);
     // By 2, v = 1 is followed by 0: the step of node 1, condition 3.
     broken(&chain(round(2)), 17, 1, 0, 3, 1, 11);
     // In an invariance the step from 2 counts: by 4 it is out of range.
     let property = (1, 0, &[always()][..]);
-    let invariance = |step| file((0, 2), equal(0), &[step], property, &[always()], &[]);
+    let invariance = |step| file(&[(0, 2)], equal(0), &[step], property, &[always()], &[]);
     accepted(&invariance(round(3)), 4, 12);
     broken(&invariance(round(4)), 16, 0, 0, 2, 2, 9);
 
@@ -444,19 +448,19 @@ fn going_round() {
     let edges = [(0, 3, 2, 1), (0, 2, 1, 1), (0, 1, 0, 1)];
     let property = (3, 0, &[always(), equal(2)][..]);
     let transitions = [next.concat()];
-    let chain = file((-3, 2), always(), &transitions, property, &nodes, &edges);
+    let chain = file(&[(-3, 2)], always(), &transitions, property, &nodes, &edges);
     accepted(&chain, 11, 66);
     // A cover that is broken at -2 and -1, the pair -1.
     let not_there = [vec![r(0x22, 0)], in_pair(-1)].concat();
     let property = (1, 0, &[not_there][..]);
-    let cover = file((-3, 2), always(), &[], property, &[always()], &[]);
+    let cover = file(&[(-3, 2)], always(), &[], property, &[always()], &[]);
     broken(&cover, 15, 0, 255, 1, -2, 8);
     holds(&cover, 1, &[true, false, false, true, true, true]);
     // A guard: where v leaves 1 by 2, adding 3 leads out of the range from 1 only.
     let odd = vec![r(0x27, 0), r(0x19, 0), r(0x11, 0), constant(2), constant(1)];
     let property = (1, 0, &[always()][..]);
     let odd = file(
-        (-3, 2),
+        &[(-3, 2)],
         always(),
         &[step(0, &odd, 3)],
         property,
@@ -488,7 +492,7 @@ fn totals() {
         let truths = vec![always(); nodes + 1];
         let (n, t) = (nodes as u32, transitions as u32);
         let of = |property: (u8, i16, &[Records]), edges: &[_]| {
-            file((0, 0), always(), &steps, property, &assertions, edges)
+            file(&[(0, 0)], always(), &steps, property, &assertions, edges)
         };
         let accepted = |file: &[u8], total: u32| accepted(file, total, total.into());
         accepted(&of((1, 0, &truths[..1]), &[]), 1 + n + 2 * n * t);

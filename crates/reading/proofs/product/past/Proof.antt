@@ -1,16 +1,12 @@
 -- `reading::product::past` meets its contract, by the kind of the record. Assumes nothing.
 use mathlib.Core.Path.{sym, _∙_}
-use Prim.Native.Nat.{ℕ, _*_, _<_, _≤_, _^_}
-use native.Mathlib.Nat.{mul-le-mul, lt-of-le-of-lt}
-use lib.Dec.{lit<}
+use native.Mathlib.Omega.{arith}
 use Rattle.reading.specs.Picks.{pastRecord}
 use Rattle.truths.proofs.Laws.Answer.{if-taken, if-left}
+use Rattle.reading.proofs.Steps.States.{product-fits}
 use borrow.Author.Needs.{needs}
 use Rattle.reading.proofs.product.past.Statement.{statement}
 use Rattle.reading.proofs.product.past.Tie as tie
-
-product-fits : (a b : ℕ) → a ≤ 4096 → b ≤ 65536 → a * b < 2 ^ 64
-product-fits a b p q = lt-of-le-of-lt (mul-le-mul p q) (lit< tt)
 
 kind-is-requires : tie.Need-kind-is-requires
 kind-is-requires c κs = search needs
@@ -26,7 +22,7 @@ range-size-requires : tie.Need-range-size-requires
 range-size-requires c κs = search needs
 
 mul-t7 : tie.Need-mul-t7
-mul-t7 c = record { fits = product-fits _ _ (c .before .before .before .before .before .before .before .pre .1) (c .before .range-size .ensures .1) }
+mul-t7 c = record { fits = product-fits _ _ (omega (arith, c .before .before .before .before .before .before .before .pre .1)) (c .before .range-size .ensures .1) }
 
 returns-2 : tie.Need-returns-2
 unfolding pastRecord

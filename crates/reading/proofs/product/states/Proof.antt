@@ -2,16 +2,11 @@
 -- Assumes nothing.
 use native.Mathlib.Omega.{arith}
 use mathlib.Core.Path.{refl, sym, _∙_, _≡_}
-use Prim.Native.Nat.{ℕ, _+_, _*_, _<_, _≤_, _^_}
+use Prim.Native.Nat.{_+_, _≤_}
 use Rattle.reading.specs.States.{statesOf}
-use native.Mathlib.Nat.{mul-le-mul, lt-of-le-of-lt}
-use lib.Dec.{lit<}
-use Rattle.reading.proofs.Steps.States.{states-none, states-over, states-step}
+use Rattle.reading.proofs.Steps.States.{product-fits, states-none, states-over, states-step}
 use Rattle.reading.proofs.product.states.Statement.{statement}
 use Rattle.reading.proofs.product.states.Tie as tie
-
-product-fits : (a b : ℕ) → a ≤ 1048576 → b ≤ 65536 → a * b < 2 ^ 64
-product-fits a b p q = lt-of-le-of-lt (mul-le-mul p q) (lit< tt)
 
 abbrev Inv-loop : tie.InvT-loop
 Inv-loop file vars left₀ at₀ product₀ left at product = (statesOf file vars 0 1 ≡ statesOf file left at product) × ((at + left ≡ vars) × (product ≤ 1048576))

@@ -26,27 +26,6 @@ by which it leads astray.
 (declare-const pick0-1 Int)
 (assert (<= 2 pick0-1 3))
 (assert (and (node0 v0 v1) (guard0 v0 v1) (and true) (not (or false (node0 v0 pick0-1)))))
-
-In a ranked chain a step leads to a target but the goal by a lower rank, and keeps its node by the
-same.
-
->>> s = vd.System()
->>> v = s.variable("v", 0, 9)
->>> s.start(v == 9)
->>> down = s.transition("down", v > 0, v.set(v - 1), just=True)
->>> stay = s.transition("stay", v < 5)
->>> d = vd.Diagram(s, vd.ranked_chain(vd.true, v == 0))
->>> goal, node = d.node(v == 0, rank=0), d.node(v > 0, rank=v - 1)
->>> d.double(down, node, goal, node)
->>> for line in script(d.to_bytes(), 8).splitlines():
-...     if "rank1" in line:
-...         print(line)
-(define-fun rank1 ((v0 Int)) Int (- v0 1))
-(assert (and (node1 v0) (< (rank1 v0) 0)))
-(assert (and (node1 v0) (guard0 v0) (and true (<= 0 (- v0 1) 9)) (not (or false (node0 (- v0 1)) \
-(and (node1 (- v0 1)) (< (rank1 (- v0 1)) (rank1 v0)))))))
-(assert (and (node1 v0) (guard1 v0) (and true) (not (or false \
-(and (node1 v0) (= (rank1 v0) (rank1 v0)))))))
 """
 
 import resource
@@ -76,9 +55,9 @@ def term(e):
 
 
 def script(file, conditions):
-    """Declares the file's variables, picks, nodes, ranks and guards, then asks whether there is a
-    state that satisfies the start, and of each of so many conditions, the first ones, whether there
-    is a state that breaks it."""
+    """Declares the file's variables, picks, nodes and guards, then asks whether there is a state that
+    satisfies the start, and of each of so many conditions, the first ones, whether there is a state
+    that breaks it."""
     reading = vd.Reading(file)
     script = Script(reading)
     script.ask(term(reading.start))
@@ -100,15 +79,13 @@ class Script:
                                inside(picked(t, pick), (pick.low, pick.high), "(assert %s)")]
         for i, assertion in enumerate(reading.nodes):
             self.define("node%d" % i, assertion)
-        for i, rank in enumerate(reading.ranks):
-            self.define("rank%d" % i, rank, "Int")
         for t in reading.transitions:
             self.define("guard%d" % t.index, t.guard)
 
-    def define(self, name, e, sort="Bool"):
-        """A truth or number of the state, by name."""
+    def define(self, name, truth):
+        """A truth of the state, by name."""
         parameters = " ".join("(%s Int)" % v for v in self.variables)
-        self.lines.append("(define-fun %s (%s) %s %s)" % (name, parameters, sort, term(e)))
+        self.lines.append("(define-fun %s (%s) Bool %s)" % (name, parameters, term(truth)))
 
     def at(self, name, state=None):
         return "(%s %s)" % (name, " ".join(state or self.variables))
@@ -124,16 +101,15 @@ class Script:
             return both(term(opening), negated(any_of(nodes)))
         here = self.at("node%d" % node)
         if number == vd.COVER:
-            q = {vd.INVARIANCE: 0, vd.WAIT_FOR: node + 1}.get(self.reading.property, 1)
+            q = {vd.INVARIANCE: 0, vd.WAIT_FOR: node + 1, vd.CHAIN: 1}[self.reading.property]
             return both(here, negated(term(self.reading.claims[q])))
-        if number == vd.RANK:
-            return both(here, "(< %s 0)" % self.at("rank%d" % node))
         guard, fits, after = self.step(self.reading.transitions[transition])
         if number == vd.IN_RANGE:
             return both(here, guard, negated(fits))
         if number == vd.ENABLING:
             return both(here, negated(both(guard, fits)))
-        return both(here, guard, fits, negated(any_of(self.ways(node, transition, after))))
+        targets = [self.at("node%d" % i, after) for i in self.targets(node, transition)]
+        return both(here, guard, fits, negated(any_of(targets)))
 
     def step(self, transition):
         """A transition's guard, that its values are in range, and the state after it, as picked."""
@@ -143,22 +119,11 @@ class Script:
         after = [values.get(i, name) for i, name in enumerate(self.variables)]
         return self.at("guard%d" % transition.index), both("true", *fits), after
 
-    def ways(self, node, transition, after):
-        """What a step may lead to: truths of the state after, of which one must hold."""
+    def targets(self, node, transition):
+        """The nodes that a step may lead to."""
         edges = [e for e in self.reading.edges if (e.source, e.transition) == (node, transition)]
         own = [] if any(e.double for e in edges) else [node]
-        targets = sorted({e.target for e in edges})
-        if not self.reading.ranks:
-            return [self.at("node%d" % i, after) for i in sorted({*own, *targets})]
-        by_edges = [self.ranked(i, after, "<", node) if i else self.at("node0", after)
-                    for i in targets]
-        return by_edges + [self.ranked(i, after, "=", node) for i in own]
-
-    def ranked(self, target, after, compared, node):
-        """That the state after satisfies the target, whose rank compares so with what the node's
-        was."""
-        return both(self.at("node%d" % target, after), "(%s %s %s)" % (
-            compared, self.at("rank%d" % target, after), self.at("rank%d" % node)))
+        return sorted({*own, *(e.target for e in edges)})
 
 
 def picked(transition, pick):

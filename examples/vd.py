@@ -28,15 +28,6 @@ are by a constant above 0 and round down, as Python does: -7 // 2 is -4, -7 % 2 
 as a number is its indicator, 1 if true, else 0. Long chains of &, | and + are written as balanced
 trees, so that nesting stays low. Beside v.set(value), a transition may have v.pick(low, high): any
 of the values low..high. Nothing here keeps anyone from building a file that the checker refuses.
-
-In a ranked chain each node has a rank, a number, which falls with each step that helps. So one node
-may stand for many counts:
-
->>> d = Diagram(s, ranked_chain(p=true, q=v == 2))
->>> goal, counts = d.node(v == 2, rank=0), d.node(v < 2, rank=1 - v)
->>> d.double(step, counts, goal, counts)
->>> len(d.to_bytes()), d.total()
-(256, 6)
 """
 
 import argparse
@@ -46,9 +37,9 @@ import struct
 import sys
 from collections import namedtuple
 
-__all__ = ["System", "Diagram", "invariance", "wait_for", "chain", "ranked_chain", "true", "false",
-           "all_of", "any_of", "total", "Reading", "Names", "lines", "Report", "accepted",
-           "refused", "broken", "tests_of", "explain", "Mismatch"]
+__all__ = ["System", "Diagram", "invariance", "wait_for", "chain", "true", "false", "all_of",
+           "any_of", "total", "Reading", "Names", "lines", "Report", "accepted", "refused",
+           "broken", "tests_of", "explain", "Mismatch"]
 
 # Limits of a file.
 BYTES, VARIABLES, TRANSITIONS, NODES, EDGES, LEVELS, STATES = 32768, 12, 32, 32, 512, 16, 1048576
@@ -61,9 +52,8 @@ QUOTIENT, REMAINDER = 0x18, 0x19
 TRUE, FALSE, NOT, AND, OR, IMPLIES, IFF, EQUAL, LESS, AT_MOST = range(0x20, 0x2A)
 
 # The kinds of property: field a of its record.
-INVARIANCE, WAIT_FOR, CHAIN, RANKED_CHAIN = 1, 2, 3, 4
-PROPERTY_NAMES = {INVARIANCE: "invariance", WAIT_FOR: "wait-for", CHAIN: "chain",
-                  RANKED_CHAIN: "ranked chain"}
+INVARIANCE, WAIT_FOR, CHAIN = 1, 2, 3
+PROPERTY_NAMES = {INVARIANCE: "invariance", WAIT_FOR: "wait-for", CHAIN: "chain"}
 
 
 def record(kind, a=0, b=0, c=0, d=0):
@@ -343,21 +333,15 @@ def chain(p, q):
     return Property(CHAIN, [p, q])
 
 
-def ranked_chain(p, q):
-    return Property(RANKED_CHAIN, [p, q])
-
-
 class Diagram:
     """A property of a system, with nodes and edges. A node is its number."""
 
     def __init__(self, system, claim):
         self.system, self.claim = system, claim
-        self.nodes, self.ranks, self.edges = [], [], []
+        self.nodes, self.edges = [], []
 
-    def node(self, assertion, rank=None):
-        """In a ranked chain a node has a rank, node 0 too, where any will do; elsewhere none."""
+    def node(self, assertion):
         self.nodes.append(truth(assertion))
-        self.ranks.append(None if rank is None else number(rank))
         return len(self.nodes) - 1
 
     def edge(self, transition, source, *targets):
@@ -368,9 +352,7 @@ class Diagram:
 
     def to_bytes(self):
         return (self.system.to_bytes() + self.claim.to_bytes()
-                + b"".join(record(NODE) + assertion.to_bytes()
-                           + (b"" if rank is None else rank.to_bytes())
-                           for assertion, rank in zip(self.nodes, self.ranks))
+                + b"".join(record(NODE) + assertion.to_bytes() for assertion in self.nodes)
                 + b"".join(record(EDGE, *edge) for edge in self.edges))
 
     def total(self):
@@ -380,8 +362,7 @@ class Diagram:
             return 1 + n + 2 * n * t
         if self.claim.a == WAIT_FOR:
             return 1 + n + 2 * (n - 1) * t
-        ranks = n - 1 if self.claim.a == RANKED_CHAIN else 0
-        return 2 + ranks + 2 * (n - 1) * t + (n - 1)
+        return 2 + 2 * (n - 1) * t + (n - 1)
 
 
 # ---- reading
@@ -421,7 +402,7 @@ class Reading:
         self.at = 0
         self.variables, self.start, self.transitions = [], None, []
         self.property, self.phases, self.claims = None, 0, []
-        self.nodes, self.ranks, self.edges = [], [], []
+        self.nodes, self.edges = [], []
         self.expressions = {}   # by the record that each begins at
         self.items = []         # the first record of each item, and what it is
         self.stop = None
@@ -482,9 +463,6 @@ class Reading:
             self._limit(len(self.nodes), most, "node")
             self._item("node %d" % len(self.nodes))
             self.nodes.append(self._expression(Truth))
-            if self.property == RANKED_CHAIN:
-                self.items.append((self.at, "the rank of node %d" % len(self.ranks)))
-                self.ranks.append(self._expression(Number))
         seen = set()
         while self.at < len(self.records) or self.excess:
             self._edge(seen)
@@ -655,8 +633,6 @@ def lines(reading, names=Names()):
             yield "    %s: %s" % (name, names.expression(claim))
     for i, assertion in enumerate(reading.nodes):
         yield "node %d: %s" % (i, names.expression(assertion))
-        for rank in reading.ranks[i:i + 1]:
-            yield "    rank: %s" % names.expression(rank)
     for edge in reading.edges:
         yield names.edge(edge)
     if reading.stop:
@@ -751,26 +727,24 @@ MEANINGS = {
     7: "there are more than 1,048,576 states",
     8: "the interval of a number leaves -1,000,000..1,000,000",
     9: "an edge is not allowed, by itself or with edges before it",
-    10: "a node of a chain or ranked chain has no double edge",
+    10: "a node of a chain has no double edge",
     11: "there is no condition of that number",
     12: "there is no state of that number",
     13: "start is broken: a starting state satisfies no node",
     14: "entry is broken: p does not imply some node",
     15: "cover is broken: a node does not imply its q",
     16: "range is broken: a node and a guard hold, and a value leaves its range",
-    17: "step is broken: from its node a transition can lead where it may not",
+    17: "step is broken: a transition can leave its node, not by an edge",
     18: "enabling is broken: a node does not imply its double transition enabled",
     19: "the divisor of a quotient or remainder is not a constant above 0",
     20: "no state satisfies the start",
-    21: "rank is broken: a node does not imply that its rank is at least 0",
     22: "a transition has more than 4,096 combinations of picks",
 }
 # Those that end a reading.
 UNREAD = (2, 3, 4, 5, 6, 19)
 STARTS, ENTRY, COVER, IN_RANGE, STEP, ENABLING = range(13, 19)
-RANK = 21
 CONDITION_NAMES = {STARTS: "start", ENTRY: "entry", COVER: "cover", IN_RANGE: "range", STEP: "step",
-                   ENABLING: "enabling", RANK: "rank"}
+                   ENABLING: "enabling"}
 
 
 class Report(namedtuple("Report", "number node transition at values")):
@@ -817,10 +791,8 @@ def conditions(reading):
         inner = nodes
     else:
         yield ENTRY, 255, 255
-    for node in nodes if reading.property in (INVARIANCE, WAIT_FOR) else nodes[:1]:
+    for node in nodes if reading.property != CHAIN else nodes[:1]:
         yield COVER, node, 255
-    for node in inner if reading.property == RANKED_CHAIN else ():
-        yield RANK, node, 255
     doubles = {(e.source, e.transition) for e in reading.edges if e.double}
     for node in inner:
         for transition in range(len(reading.transitions)):
@@ -843,7 +815,7 @@ def edge_fault(reading, index):
         return "an invariance diagram has single edges only" if edge.double else None
     if edge.source == 0:
         return "no edge may leave node 0, the goal"
-    if edge.target > edge.source and kind != RANKED_CHAIN:
+    if edge.target > edge.source:
         return "an edge may not go to a higher node"
     if kind == WAIT_FOR:
         return "a wait-for diagram has single edges only" if edge.double else None
@@ -851,7 +823,7 @@ def edge_fault(reading, index):
         return "a transition's edges from one node are all single or all double"
     if not edge.double:
         return None
-    if edge.target == edge.source and kind == CHAIN:
+    if edge.target == edge.source:
         return "a double edge goes to a lower node"
     if not reading.transitions[edge.transition].just:
         return "a double edge stands on a just transition only"
@@ -939,8 +911,7 @@ def _place(report, reading, names):
         index = at - (len(reading.records) - len(reading.edges))
         if 0 <= index < len(reading.edges) and edge_fault(reading, index):
             return "%s: %s" % (names.edge(reading.edges[index]), edge_fault(reading, index))
-    chained = reading.property in (CHAIN, RANKED_CHAIN)
-    if report.number == 10 and 0 < at < len(reading.nodes) and chained:
+    if report.number == 10 and 0 < at < len(reading.nodes) and reading.property == CHAIN:
         if not any(e.double and e.source == at for e in reading.edges):
             return "node %d: %s" % (at, names.expression(reading.nodes[at]))
     if report.number == 20 and report.hex() == refused(20).hex():
@@ -990,13 +961,9 @@ def _why(reading, report, state, names):
     if not holds[node]:
         return None
     if report.number == COVER:
-        q = {INVARIANCE: 0, WAIT_FOR: node + 1, CHAIN: 1, RANKED_CHAIN: 1}[reading.property]
+        q = {INVARIANCE: 0, WAIT_FOR: node + 1, CHAIN: 1}[reading.property]
         return None if value(reading.claims[q], state) else \
             "node %d is true, and %s is not" % (node, reading.claim_names()[q])
-    if report.number == RANK:
-        rank = value(reading.ranks[node], state)
-        return None if rank >= 0 else "node %d is true, and its rank, %s, is %d" % (
-            node, names.expression(reading.ranks[node]), rank)
     transition = reading.transitions[report.transition]
     name = names.transition(transition.index)
     guard = value(transition.guard, state)
@@ -1016,66 +983,22 @@ def _why(reading, report, state, names):
 def _astray(reading, node, transition, state, names):
     """How the enabled transition leads where it must not from the node, by its lowest successor
     that does; None if none does."""
-    ways = Ways(reading, node, transition, state)
-    after = next((after for after in successors(transition, state) if not ways.allow(after)), None)
+    edges = [e for e in reading.edges if (e.source, e.transition) == (node, transition.index)]
+    own = [] if any(e.double for e in edges) else [node]
+    targets = sorted({*own, *(e.target for e in edges)})
+    after = next((after for after in successors(transition, state)
+                  if not any(value(reading.nodes[t], after) for t in targets)), None)
     if after is None:
         return None
+    met = [i for i, assertion in enumerate(reading.nodes) if value(assertion, after)]
     picked = " and ".join("%s = %d" % (names.variable(p.variable), after[p.variable])
                           for p in transition.picks)
-    return "node %d is true%s, and %s %s %s; that %s %s, and must satisfy %s" % (
-        node, "" if ways.rank is None else " with rank %d" % ways.rank,
-        names.transition(transition.index),
+    return "node %d is true, and %s %s %s; that %s %s, and must satisfy %s%s" % (
+        node, names.transition(transition.index),
         "may pick %s and lead to" % picked if picked else "leads to", names.state(after),
-        "successor satisfies" if picked else "satisfies", ways.met(after), ways.wanted())
-
-
-class Ways:
-    """Where a transition may lead from a node that is true at a state: to the targets of edges and,
-    unless these are double, to the node itself. In a ranked chain `rank` is what the node's was; a
-    target's must be lower, but for the goal's, and the node's own the same."""
-
-    def __init__(self, reading, node, transition, state):
-        edges = [e for e in reading.edges if (e.source, e.transition) == (node, transition.index)]
-        self.reading, self.node = reading, node
-        self.targets = sorted({e.target for e in edges})
-        self.keeps = not any(e.double for e in edges)
-        self.rank = value(reading.ranks[node], state) if reading.ranks else None
-
-    def allow(self, after):
-        """May the transition lead there?"""
-        return any(value(self.reading.nodes[i], after) and self._allowed(i, after)
-                   for i in {*self.targets, self.node})
-
-    def _allowed(self, i, after):
-        by_edge, kept = i in self.targets, self.keeps and i == self.node
-        if self.rank is None:
-            return by_edge or kept
-        rank = value(self.reading.ranks[i], after)
-        return by_edge and (i == 0 or rank < self.rank) or kept and rank == self.rank
-
-    def met(self, after):
-        """The nodes that are true there."""
-        met = [i for i, assertion in enumerate(self.reading.nodes) if value(assertion, after)]
-        if self.rank is None or not met:
-            return "only %s" % _nodes(met) if met else "no node"
-        return "only %s" % " and ".join(
-            "node %d with rank %d" % (i, value(self.reading.ranks[i], after)) if i else "node 0"
-            for i in met)
-
-    def wanted(self):
-        """Those of which one must be."""
-        wanted = sorted({*self.targets, *[self.node] * self.keeps})
-        if self.rank is None:
-            return "one of the " * (len(wanted) > 1) + _nodes(wanted)
-        return ", or ".join("node %d%s" % (i, self._compared(i)) for i in wanted)
-
-    def _compared(self, i):
-        """With which rank."""
-        if i == 0:
-            return ""
-        if self.keeps and i == self.node:
-            return " with rank %d%s" % (self.rank, " or below" * (i in self.targets))
-        return " with a rank below %d" % self.rank
+        "successor satisfies" if picked else "satisfies",
+        "only %s" % _nodes(met) if met else "no node", "one of the " * (len(targets) > 1),
+        _nodes(targets))
 
 
 def _nodes(numbers):

@@ -38,8 +38,6 @@ def models():
     yield _file("laps", systems.laps())
     yield _file("desks", systems.desks())
     yield _file("desks-broken", systems.desks(broken=True), (5, 803076))
-    yield _file("clips", systems.clips())
-    yield _file("clips-broken", systems.clips(broken=True), (4, 1004512))
 
 
 def random():
@@ -49,7 +47,6 @@ def random():
     yield _file("random-4-4-15-20", drawn.accepted(20, 4, 4, 15))
     yield _file("random-4-16-15-20", drawn.accepted(20, 4, 16, 15), slow=True)
     yield _file("random-chain-20", drawn.accepted_chain(20))
-    yield _file("random-ranked-20", drawn.accepted_ranked(20))
     for bits in (14, 16, 18):
         yield _file("random-1-1-15-%d" % bits, drawn.accepted(bits, 1, 1, 15))
     for transitions in (1, 2, 4, 8, 16):
@@ -84,8 +81,6 @@ def adversaries():
     yield _file("picked-identity", adversarial.identity_picked())
     yield _file("picked-parity", adversarial.parity_picked())
     yield _file("picked-last", adversarial.picked_last(), (3, 255 << 12))
-    yield _file("ranked-lines", adversarial.ranked_lines())
-    yield _file("ranked-sum", adversarial.ranked_sum())
     yield _file("start-even-and-odd", adversarial.even_and_odd(), NO_START)
     yield _file("start-last", adversarial.even_and_odd(last=True))
 
@@ -106,5 +101,3 @@ def stack():
     for broken in (False, True):
         yield _file("deep-picks%s" % ("-broken" * broken), extreme.picked(broken),
                     last if broken else None)
-        yield _file("deep-ranks%s" % ("-broken" * broken), extreme.ranked(broken),
-                    (4, last[1]) if broken else None)

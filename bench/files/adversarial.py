@@ -1,8 +1,7 @@
 """Files made against a check of whole boxes of states: intervals decide their conditions only at
 single states, or evaluating a box costs much more than evaluating a state."""
 
-from vd import (AND, IFF, OR, Diagram, System, Truth, all_of, any_of, invariance, ranked_chain,
-                total, true)
+from vd import AND, IFF, OR, Diagram, System, Truth, all_of, invariance, total, true
 
 # Twelve variables, so many of them in 0..3 and the rest in 0..1.
 SMALL, MIDDLE, LARGE = 0, 4, 8
@@ -207,45 +206,3 @@ def picked_last():
     node = Truth(AND, forward == backward, ~(forward == sum(v.high for v in s.variables)))
     return diagram(s, slow == 0, [(all_of(v == 0 for v in others), [v.pick() for v in others])],
                    true, [node])
-
-
-def ranked_lines():
-    """A hundred volumes of a hundred pages of a hundred lines, corrected from the last line to the
-    first. The rank is how many lines are left, and falls by 1 with each step; intervals see that in
-    single states only."""
-    s = System()
-    volume, page, line = (s.variable(name, 0, 99) for name in ("volume", "page", "line"))
-    s.start(all_of(v == 99 for v in s.variables))
-    at_line, at_page = line > 0, all_of(line == 0, page > 0)
-    at_volume = all_of(line == 0, page == 0, volume > 0)
-    done = all_of(v == 0 for v in s.variables)
-    steps = [s.transition("line", at_line, line.set(line - 1), just=True),
-             s.transition("page", at_page, page.set(page - 1), line.set(99), just=True),
-             s.transition("volume", at_volume, volume.set(volume - 1), page.set(99), line.set(99),
-                          just=True)]
-    d = Diagram(s, ranked_chain(p=true, q=done))
-    d.node(done, rank=0)
-    for node in (at_line, at_page, at_volume):
-        d.node(node, rank=(volume * 100 + page) * 100 + line - 1)
-    d.double(steps[0], 1, 0, 1, 2, 3)
-    d.double(steps[1], 2, 1)
-    d.double(steps[2], 3, 1)
-    return d
-
-
-def ranked_sum():
-    """The rank is a sum. A step takes 1 from the first variable that isn't 0; others exchange two,
-    which keeps the sum, and no interval tells before a box is a single state."""
-    s = twelve(MIDDLE)
-    some = any_of(v > 0 for v in s.variables)
-    s.start(some)
-    down = s.transition("down", some, *(
-        v.set(v - all_of((other == 0 for other in s.variables[:i]), v > 0))
-        for i, v in enumerate(s.variables)), just=True)
-    for i in (0, 2, MIDDLE):
-        v, other = s.variables[i], s.variables[i + 1]
-        s.transition("exchange", true, v.set(other), other.set(v))
-    d = Diagram(s, ranked_chain(p=true, q=~some))
-    goal, rest = d.node(~some, rank=0), d.node(some, rank=total(s.variables) - 1)
-    d.double(down, rest, goal, rest)
-    return d

@@ -2,7 +2,7 @@
 alone is broken, at one state. A size is a number of records."""
 
 from vd import (AND, AT_MOST, CONSTANT, EQUAL, IMPLIES, INDICATOR, NOT, OR, SUM, TRUE, VARIABLE,
-                Diagram, Number, System, Truth, chain, invariance, number, ranked_chain, true)
+                Diagram, Number, System, Truth, chain, invariance, number, true)
 
 MASK = (1 << 64) - 1
 
@@ -146,22 +146,6 @@ def accepted_chain(bits):
         d.node(Truth(AND, Truth(AND, v < 8 * x + 8, v >= 8 * x), s.always(7)))
     for x in range(1, 4):
         d.double(t, x, x - 1)
-    return d.to_bytes()
-
-
-def accepted_ranked(bits):
-    """A ranked chain with one node beside the goal, and a transition that takes 8 from its rank; the
-    expressions have 15 records."""
-    s = Draft(4, bits)
-    v = s.variables[0]
-    s.start(s.half(s.variables[1], 15))
-    guard = Truth(IMPLIES, v < 8, s.draw(11))
-    t = s.transition("down", guard, v.set(v - 8 * number(s.always(10))), just=True)
-    p = s.half(s.variables[2], 15)
-    d = Diagram(s, ranked_chain(p, Truth(OR, v < 8, s.draw(11))))
-    d.node(Truth(AND, v < 8, s.always(11)), rank=0)
-    d.node(Truth(AND, v >= 8, s.always(11)), rank=v * number(s.always(12)))
-    d.double(t, 1, 0, 1)
     return d.to_bytes()
 
 

@@ -2,7 +2,7 @@
 nesting."""
 
 from vd import (AND, EQUAL, IFF, IMPLIES, NOT, OR, PRODUCT, SUM, Diagram, Number, System, Truth,
-                false, invariance, number, ranked_chain, total, true)
+                false, invariance, number, total, true)
 from .adversarial import LARGE, diagram, flips, nested, twelve
 
 ZERO, ONE = number(0), number(1)
@@ -68,25 +68,6 @@ def picked(broken):
     that there are 4,096 combinations."""
     d = deep("sum-right", False)
     d.system.transitions[0].effects = [v.pick(v.high - broken, v.high) for v in d.system.variables]
-    return d
-
-
-def ranked(broken):
-    """A ranked chain in which every expression but the goal's rank nests 16 levels. Node 1 is where
-    all variables have their high ends, but for 1 at most, node 0 all else. The step takes 1 from one
-    variable; so it leads to node 0, but at the last state to node 1 with a lower rank or, broken,
-    with the same."""
-    s, around = twelve(LARGE), WORTH["sum-right"]
-    down, other = s.variables[7], s.variables[11]
-    high = sum(v.high for v in s.variables)
-    near = repeated(10, around, total(s.variables)) >= high - 1
-    far = repeated(10, around, total(s.variables)) < high - 1
-    s.start(near)
-    step = s.transition("t", near, down.set(repeated(14, around, down) - 1), just=True)
-    d = Diagram(s, ranked_chain(p=near, q=far))
-    d.node(far, rank=0)
-    d.node(near, rank=repeated(15, around, other if broken else down))
-    d.double(step, 1, 0, 1)
     return d
 
 

@@ -1,8 +1,8 @@
 """Models of systems: editors who share a page, clocks, readers in a ring of pages, philosophers,
-desks on which volumes are laid, sound clips that are counted down."""
+desks on which volumes are laid."""
 
 from models.pages import NAME, WAITS, Pages, names
-from vd import Diagram, System, all_of, any_of, invariance, ranked_chain, true
+from vd import Diagram, System, all_of, any_of, invariance
 
 # A philosopher's phases: from LEFT to EATS it has the left fork, from EATS to RIGHT the right one.
 THINKS, HUNGRY, LEFT, EATS, RIGHT = range(5)
@@ -11,8 +11,6 @@ DOWN = 0
 RING, LAP = 101, 100
 # The desks, and the volumes that a desk may get, of twice as many.
 DESKS, VOLUMES = 6, 4
-# The clips that are left at most, the speeds at which they are played, and the pages beside them.
-CLIPS, SPEEDS, SHEETS = 999, 32, 32
 
 
 def pages_one_node():
@@ -128,25 +126,4 @@ def desks(broken=False):
     d = Diagram(s, invariance(some if broken else all_of(
         v != other for v, other in zip(desk, desk[1:]))))
     d.node(all_of(own, some) if broken else own)
-    return d
-
-
-def clips(broken=False):
-    """Sound clips are aligned, one after the other, a rank that falls by 1; meanwhile the speed goes
-    up and down and the page changes, which keeps the rank. Or, broken, clip 980 slips at the highest
-    speed and is left as it was: the step of transition 0 is broken, at state 1,004,512."""
-    s = System()
-    left, speed = s.variable("left", 0, CLIPS), s.variable("speed", 0, SPEEDS - 1)
-    page = s.variable("page", 0, SHEETS - 1)
-    s.start(all_of(left == CLIPS, speed == 0, page == 0))
-    after = left - 1
-    if broken:
-        after = after + all_of(left == 980, speed == SPEEDS - 1)
-    align = s.transition("align", left > 0, left.set(after), just=True)
-    s.transition("faster", speed < SPEEDS - 1, speed.set(speed + 1))
-    s.transition("slower", speed > 0, speed.set(speed - 1))
-    s.transition("turn", true, page.set((page + 1) % SHEETS))
-    d = Diagram(s, ranked_chain(p=true, q=left == 0))
-    goal, counts = d.node(left == 0, rank=0), d.node(left > 0, rank=left - 1)
-    d.double(align, counts, goal, counts)
     return d

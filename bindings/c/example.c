@@ -21,8 +21,7 @@ int main(void) {
         printf("accepted: all %u conditions are true at every state, %" PRIu64 " tests\n", (unsigned) verdict.at, verdict.tests);
         return 0;
     }
-    bool broken = (13 <= verdict.number && verdict.number <= 18) || verdict.number == 21;
-    if (!broken) {
+    if (verdict.number < 13 || verdict.number > 18) {
         printf("refused with %u, place %u\n", verdict.number, (unsigned) verdict.at);
         return 1;
     }

@@ -22,8 +22,7 @@ extern "C" {
 
 /* The check's result: the fields of the report, and the tests. */
 struct vd_verdict {
-    uint8_t number;     /* 0 for an accepted file, else the refusal's number: 13 to 18 and 21 for a broken condition, 1 to 10, 19, 20, 22 for no
-                           condition */
+    uint8_t number;     /* 0 for an accepted file, else the refusal's number: 13 to 18 for a broken condition, 1 to 10, 19, 20, 22 for no condition */
     uint8_t node;       /* the broken condition's node, 255 for none */
     uint8_t transition; /* and its transition */
     uint32_t at;        /* the broken condition, the refusal's place, or for 0 how many conditions there are */

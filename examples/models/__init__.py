@@ -1,6 +1,6 @@
 """The examples: what each file models, the diagram that builds it, and the answer it gets."""
 
-from . import bits, clips, counter, handing, pages, peterson, refused, ring
+from . import bits, counter, handing, pages, peterson, refused, ring
 
 EXAMPLES = (counter.EXAMPLES + peterson.EXAMPLES + pages.EXAMPLES + ring.EXAMPLES + bits.EXAMPLES
-            + handing.EXAMPLES + clips.EXAMPLES + refused.EXAMPLES)
+            + handing.EXAMPLES + refused.EXAMPLES)

@@ -70,7 +70,7 @@ pub enum Outcome {
     /// Every condition is true at every state, and there is a starting state.
     Accepted { conditions: u32 },
     /// The lowest broken condition, with the lowest-numbered state that breaks it. The number tells its kind: 13 start, 14 entry, 15 cover,
-    /// 16 range, 17 step, 18 enabling, 21 rank.
+    /// 16 range, 17 step, 18 enabling.
     Broken {
         number: u8,
         condition: u32,
@@ -176,48 +176,13 @@ pub fn single(file: &[u8], condition: usize, state: usize) -> Result<bool, Refus
 }
 
 impl Verdict {
-    /// What the verdict says.
-    ///
-    /// C10.21, C12.3, a number above 18 that names a condition: a variable in 0..2 that a just transition counts down, and a ranked chain to 0, whose
-    /// node 1, where it is above 0, has a rank of 2 less, which is below 0 at 1.
-    ///
-    /// ```
-    /// use vd::Outcome;
-    ///
-    /// let mut file = Vec::new();
-    /// for [kind, a, b, c, d] in [
-    ///     [0x01, 0, 0, 2, 0], [0x02, 0, 0, 0, 0], [0x20, 0, 0, 0, 0], // variable 0, start: true
-    ///     [0x03, 1, 0, 0, 0], [0x28, 0, 0, 0, 0], [0x10, 0, 0, 0, 0], [0x11, 0, 0, 0, 0], // a just transition where 0 is less than it:
-    ///     [0x04, 0, 0, 0, 0], [0x13, 0, 0, 0, 0], [0x11, 0, 0, 0, 0], [0x10, 0, 1, 0, 0], // it becomes the difference of it and 1
-    ///     [0x05, 4, 0, 0, 0], [0x20, 0, 0, 0, 0], [0x27, 0, 0, 0, 0], [0x11, 0, 0, 0, 0], [0x10, 0, 0, 0, 0], // ranked chain, p: true, q: it is 0
-    ///     [0x06, 0, 0, 0, 0], [0x27, 0, 0, 0, 0], [0x11, 0, 0, 0, 0], [0x10, 0, 0, 0, 0], // node 0: it is 0
-    ///     [0x10, 0, 0, 0, 0], // rank: 0
-    ///     [0x06, 0, 0, 0, 0], [0x28, 0, 0, 0, 0], [0x10, 0, 0, 0, 0], [0x11, 0, 0, 0, 0], // node 1: 0 is less than it
-    ///     [0x13, 0, 0, 0, 0], [0x11, 0, 0, 0, 0], [0x10, 0, 2, 0, 0], // rank: the difference of it and 2
-    ///     [0x07, 0, 1, 0, 1], [0x07, 0, 1, 1, 1], // double edges from node 1, to 0 and to 1
-    /// ] {
-    ///     file.extend([kind, a, b, 0, c, 0, d, 0]);
-    /// }
-    /// let verdict = vd::check(&file);
-    /// match verdict.outcome() {
-    ///     Outcome::Broken { number: 21, condition: 2, node: Some(1), transition: None, state } => assert_eq!(state[0], 1),
-    ///     _ => panic!("{verdict}"),
-    /// }
-    /// assert!(verdict.to_string().starts_with("condition 2 is broken: rank, node 1, at the state [1, 0, "));
-    /// assert_eq!(vd::single(&file, 2, 1), Ok(false));
-    ///
-    /// // C8.18: 1 less is a rank of at least 0, and falls; so all six conditions are true.
-    /// let constant = file.len() - 3 * 8;
-    /// file[constant + 2] = 1;
-    /// assert_eq!(vd::check(&file).outcome(), Outcome::Accepted { conditions: 6 });
-    /// ```
     pub fn outcome(&self) -> Outcome {
         let named = |number: u8| (number != 255).then_some(number);
         match self.number {
             0 => Outcome::Accepted {
                 conditions: self.at,
             },
-            13..=18 | 21 => Outcome::Broken {
+            13..=18 => Outcome::Broken {
                 number: self.number,
                 condition: self.at,
                 node: named(self.node),
@@ -298,7 +263,7 @@ pub fn meaning(number: u8) -> &'static str {
         7 => "there are more than 1,048,576 states",
         8 => "the interval of a number leaves -1,000,000..1,000,000",
         9 => "an edge is not allowed, by itself or with edges before it",
-        10 => "a node of a chain or ranked chain has no double edge",
+        10 => "a node of a chain has no double edge",
         11 => "there is no condition of that number",
         12 => "there is no state of that number",
         13 => "start",
@@ -309,7 +274,6 @@ pub fn meaning(number: u8) -> &'static str {
         18 => "enabling",
         19 => "the divisor of a quotient or remainder is not a constant above 0",
         20 => "no state satisfies the start",
-        21 => "rank",
         22 => "a transition has more than 4,096 combinations of picks",
         _ => "no number of refusal",
     }

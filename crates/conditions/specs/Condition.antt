@@ -5,35 +5,30 @@ use Rattle.diagrams.specs.declared.Diagram.{Diagram}
 use Rattle.shapes.specs.Property.{property_of}
 use Rattle.conditions.specs.Edges.{is_double}
 use Rattle.conditions.specs.declared.Condition.{Condition}
-use Rattle.conditions.specs.declared.Condition.TheVariants.{Start, Entry, Cover, Rank, Range, Step, Enabling}
+use Rattle.conditions.specs.declared.Condition.TheVariants.{Start, Entry, Cover, Range, Step, Enabling}
 
 -- for C8.3: what f gives at the n numbers from `at` on, one list behind the other
 unfoldable pub each : {A : Type 0} → (ℕ → List A) → ℕ → ℕ → List A
 each f zero at = []
 each f (suc n) at = f at ++ each f n (at + 1)
 
--- for C8.16: the conditions of the ranks of node n; only a ranked chain has any
-unfoldable pub ranks_of : Diagram → ℕ → List Condition
-ranks_of g n = each (λ i. Rank n i ∷ []) (property_of g.claim).ranks 0
-
--- for C8.4 to C8.6, C8.16: the conditions of node n and transition t; only a chain and a ranked chain have double edges
+-- for C8.4 to C8.6: the conditions of node n and transition t; only a chain has double edges
 unfoldable pub moves_of : List ℕ → Diagram → ℕ → ℕ → List Condition
 moves_of file g n t = Range n t ∷ Step n t ∷ cond (is_double file g n t) (Enabling n t ∷ []) []
 
--- for C8.4 to C8.6, C8.16: the first condition
+-- for C8.4 to C8.6: the first condition
 unfoldable pub opening_of : Diagram → Condition
 opening_of g = cond (property_of g.claim).entry Entry Start
 
--- for C8.4 to C8.6, C8.16: how many nodes are covered, all or the goal alone
+-- for C8.4 to C8.6: how many nodes are covered, all or the goal alone
 unfoldable pub covered_of : Diagram → ℕ
 covered_of g = cond (property_of g.claim).covered g.nodes 1
 
--- C8.3 to C8.6, C8.16: the list, by the row of what the file claims
+-- C8.3 to C8.6: the list, by the row of what the file claims
 unfoldable pub conditions_of : List ℕ → Diagram → List Condition
 conditions_of file g =
     let from = (property_of g.claim).from in
-    opening_of g ∷ each (λ n. Cover n ∷ []) (covered_of g) 0
-    ++ (each (ranks_of g) (g.nodes - from) from ++ each (λ n. each (moves_of file g n) g.transitions 0) (g.nodes - from) from)
+    opening_of g ∷ each (λ n. Cover n ∷ []) (covered_of g) 0 ++ each (λ n. each (moves_of file g n) g.transitions 0) (g.nodes - from) from
 
 -- for C8.15: how many conditions there are
 unfoldable pub total_of : List ℕ → Diagram → ℕ
@@ -48,12 +43,11 @@ abbrev pub Listed : List ℕ → Diagram → Condition → Type 0
 Listed file g c = Memᴰ c (conditions_of file g)
 
 -- ---- the name of a broken condition
--- C10.13 to C10.18, C10.21, C12.3: the number of refusal, with node and transition, 255 for none (C12.6)
+-- C10.13 to C10.18, C12.3: the number of refusal, with node and transition, 255 for none (C12.6)
 unfoldable pub name_of : Condition → ℕ × ℕ × ℕ
 name_of Start = (13, 255, 255)
 name_of Entry = (14, 255, 255)
 name_of (Cover n) = (15, n, 255)
-name_of (Rank n i) = (21, n, 255)
 name_of (Range n t) = (16, n, t)
 name_of (Step n t) = (17, n, t)
 name_of (Enabling n t) = (18, n, t)

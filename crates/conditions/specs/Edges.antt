@@ -9,6 +9,6 @@ use Rattle.truths.specs.Search.{any}
 unfoldable pub carries : ℕ → ℕ → Edge → Bool
 carries n t e = eqb e.from n && eqb e.transition t
 
--- for C8.12: double edges carry t from node n; only a chain and a ranked chain have them
+-- for C8.12: double edges carry t from node n; only a chain has them
 unfoldable pub is_double : List ℕ → Diagram → ℕ → ℕ → Bool
 is_double file g n t = any (λ e. carries n t (edge_of file g e) && (edge_of file g e).double) g.edges 0

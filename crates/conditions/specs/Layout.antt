@@ -1,6 +1,6 @@
 -- The list of conditions by quotients and remainders, as the code finds the condition of a number. That it is the list is a law
 -- (proofs/Laws/Condition.antt).
-use Rattle.std.specs.Prelude.{not, cond, List, ℕ, ◌+◌, ◌-◌, ◌*◌, ◌/◌, ◌%◌, ltb, eqb}
+use Rattle.std.specs.Prelude.{not, cond, List, ℕ, ◌+◌, ◌*◌, ◌/◌, ◌%◌, ltb, eqb}
 use Rattle.shapes.specs.Property.{property_of}
 use Rattle.shapes.specs.Edge.{double_from}
 use Rattle.diagrams.specs.declared.Diagram.{Diagram}
@@ -13,14 +13,7 @@ use Rattle.conditions.specs.Condition.{covered_of}
 
 unfoldable pub layout_of : Diagram → Blocks
 layout_of g =
-    let p = property_of g.claim in
-    record {
-      covers = covered_of g;
-      from = p.from;
-      ranks = p.ranks;
-      ranked = (g.nodes - p.from) * p.ranks;
-      size = 2 * g.transitions + cond p.doubles 1 0;
-    }
+    record { covers = covered_of g; from = (property_of g.claim).from; size = 2 * g.transitions + cond (property_of g.claim).doubles 1 0 }
 
 -- range and step of node n, the two of each transition side by side
 unfoldable pub pair_of : ℕ → ℕ → Condition

@@ -7,32 +7,27 @@ ghost use Rattle.conditions.specs.Layout.{double_of, layout_of, pair_of};
 use diagrams::{Diagram, edge_of};
 use shapes::{double_from, property_of};
 
-// A condition, by its node and its transition; a rank's by its node and which of the node's ranks it is.
+// A condition, by its node and its transition.
 #[derive(Drop)]
 pub enum Condition {
     Start,
     Entry,
     Cover(usize),
-    Rank(usize, usize),
     Range(usize, usize),
     Step(usize, usize),
     Enabling(usize, usize),
 }
 
-// How the conditions behind the first are laid out: the covers of `covers` nodes, then those of `ranks` ranks of each node from `from` up, `ranked` together,
-// then `size` conditions of each of these nodes.
+// How the conditions behind the first are laid out: the covers of `covers` nodes, then `size` conditions of each node from `from` up.
 #[derive(Drop)]
 pub struct Blocks {
     pub covers: usize,
     pub from: usize,
-    pub ranks: usize,
-    pub ranked: usize,
     pub size: usize,
 }
 
 fn layout(diagram: Diagram) -> Blocks
-    requires transitions { diagram.transitions ≤ 32 }
-    requires nodes { (1 ≤ diagram.nodes) × (diagram.nodes ≤ 32) }
+    requires { diagram.transitions ≤ 32 }
     ensures { result ≡ layout_of diagram }
 {
     let claim = diagram.claim;
@@ -45,13 +40,9 @@ fn layout(diagram: Diagram) -> Blocks
     if property.doubles {
         size += 1;
     }
-    let from = property.from;
-    let ranks = property.ranks;
     Blocks {
         covers,
-        from,
-        ranks,
-        ranked: (diagram.nodes - from) * ranks,
+        from: property.from,
         size,
     }
 }
@@ -63,7 +54,7 @@ pub fn total(file: &[u8], diagram: Diagram) -> usize
 {
     let l = layout(diagram);
     let nodes = diagram.nodes - l.from;
-    1 + l.covers + l.ranked + nodes * l.size
+    1 + l.covers + nodes * l.size
 }
 
 // The transition of the node's double edges, or one past the transitions where it has none.
@@ -119,11 +110,7 @@ pub fn condition_at(file: &[u8], diagram: Diagram, number: usize) -> Condition
     if number <= l.covers {
         return Condition::Cover(number - 1);
     }
-    let behind = number - 1 - l.covers;
-    if behind < l.ranked {
-        return Condition::Rank(behind / l.ranks + l.from, behind % l.ranks);
-    }
-    let rest = behind - l.ranked;
+    let rest = number - 1 - l.covers;
     let node = rest / l.size + l.from;
     let k = rest % l.size;
     let double = double_of(file, diagram, node);
@@ -145,7 +132,6 @@ pub fn refusal_number(condition: Condition) -> u8
         Condition::Start => 13,
         Condition::Entry => 14,
         Condition::Cover(_) => 15,
-        Condition::Rank(_, _) => 21,
         Condition::Range(_, _) => 16,
         Condition::Step(_, _) => 17,
         Condition::Enabling(_, _) => 18,
@@ -160,7 +146,6 @@ pub fn node_number(condition: Condition) -> u8
         Condition::Start => 255,
         Condition::Entry => 255,
         Condition::Cover(n) => n as u8,
-        Condition::Rank(n, _) => n as u8,
         Condition::Range(n, _) => n as u8,
         Condition::Step(n, _) => n as u8,
         Condition::Enabling(n, _) => n as u8,
@@ -175,7 +160,6 @@ pub fn transition_number(condition: Condition) -> u8
         Condition::Start => 255,
         Condition::Entry => 255,
         Condition::Cover(_) => 255,
-        Condition::Rank(_, _) => 255,
         Condition::Range(_, t) => t as u8,
         Condition::Step(_, t) => t as u8,
         Condition::Enabling(_, t) => t as u8,

@@ -3,7 +3,6 @@
 use Rattle.truths.specs.Truth
 use Rattle.truths.specs.Search
 use Rattle.truths.specs.Listed
-use Rattle.ranks.specs.Order
 use Rattle.conditions.specs.Edges
 use Rattle.conditions.specs.Condition
 use Rattle.testing.specs.Holding
@@ -14,9 +13,9 @@ use Rattle.deciding.specs.Decision
 -- `unfolding deciding` unfolds all that stands here
 unfoldable pub deciding : Unit {0}
 unfolding computing Search.first_failing_from Search.first_failing Edges.carries Edges.is_double
-    Condition.each Condition.ranks_of Condition.moves_of Condition.opening_of Condition.covered_of Condition.conditions_of Condition.total_of Condition.condition_at
+    Condition.each Condition.moves_of Condition.opening_of Condition.covered_of Condition.conditions_of Condition.total_of Condition.condition_at
     Condition.name_of
-    Truth.implies Listed.all_pass Order.lower Order.same Holding.some_node Holding.falls_to Holding.some_target Holding.keeps_node Holding.step_leads Holding.condition_holds
+    Truth.implies Listed.all_pass Holding.some_node Holding.some_target Holding.step_leads Holding.condition_holds
     Verdict.breaking_of Verdict.is_true Verdict.broken_of
     Verdict.broken_at Verdict.tests_of Verdict.judged_of Verdict.verdict_of Verdict.check_of
     Decision.up_to_failing Decision.tests_in_order Decision.tests_made

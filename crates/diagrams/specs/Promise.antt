@@ -3,8 +3,7 @@ use Rattle.std.specs.Prelude.{◌≡◌, true, false, List, ℕ, ◌+◌, ◌*�
 use Rattle.shapes.specs.Property.{property_of}
 use Rattle.states.specs.Ranges.{Ranges, Idle}
 use Rattle.states.specs.Number.{count_of}
-use Rattle.expressions.specs.Expression.{behind}
-use Rattle.expressions.specs.Fits.{TruthFits, NumbersFit}
+use Rattle.expressions.specs.Fits.{TruthFits}
 use Rattle.evaluating.specs.Fits.{TransitionFits}
 use Rattle.diagrams.specs.declared.Diagram.{Diagram}
 use Rattle.diagrams.specs.Diagram.{State, edge_of}
@@ -61,8 +60,6 @@ pub record Promise (file : List ℕ) (g : Diagram) : Type 0 where
   pub p : TruthRight file g (claimed_at file g 0)
   pub q : (n : ℕ) → n < g.nodes → TruthRight file g (q_at file g n)
   pub assertion : (n : ℕ) → n < g.nodes → TruthRight file g (get_or g.assertions n 0)
-  pub ranks : (n : ℕ) → n < g.nodes → (state : List ℤ) → State g state
-      → NumbersFit file (property_of g.claim).ranks (behind file (get_or g.assertions n 0)) state
   pub step : (t : ℕ) → t < g.transitions → (state : List ℤ) → State g state → TransitionFits file (step_at g t) state
   -- the edges: each is there and right, none repeats another, and each node that has to have one has its double transition
   pub edge_here : (e : ℕ) → e < g.edges → 8 * (g.edge + e) + 8 ≤ length file

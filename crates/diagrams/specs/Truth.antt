@@ -1,11 +1,10 @@
--- The truths of a diagram at a state: its start, its nodes with their ranks, and the property's p and q.
+-- The truths of a diagram at a state: its start, its nodes, and the property's p and q.
 use Rattle.std.specs.Prelude.{Bool, cond, List, ℕ, ◌+◌, get_or, ℤ}
 use Rattle.shapes.specs.declared.Claim.{Claim}
 use Rattle.shapes.specs.Property.{property_of}
 use Rattle.records.specs.Walk.{in_sequence, truth_of}
 use Rattle.records.specs.Place.{place_of}
-use Rattle.expressions.specs.Expression.{holds_of, behind}
-use Rattle.expressions.specs.Numbers.{numbers_from}
+use Rattle.expressions.specs.Expression.{holds_of}
 use Rattle.diagrams.specs.declared.Diagram.{Diagram}
 
 -- C6.3: a starting state
@@ -15,10 +14,6 @@ start_holds file g state = holds_of file g.start state
 -- C8.1: node n is true
 unfoldable pub node_holds : List ℕ → Diagram → ℕ → List ℤ → Bool
 node_holds file g n state = holds_of file (get_or g.assertions n 0) state
-
--- C1.18: what its ranks are worth; they stand behind its assertion
-unfoldable pub ranks_of : List ℕ → Diagram → ℕ → List ℤ → List ℤ
-ranks_of file g n state = numbers_from file (property_of g.claim).ranks (behind file (get_or g.assertions n 0)) state
 
 -- for C1.12: where truth i of the property stands
 unfoldable pub claimed_at : List ℕ → Diagram → ℕ → ℕ

@@ -56,7 +56,3 @@ unfoldable mutual
 -- a truth expression of a file, from its first record on
 unfoldable pub seen_of : List ℕ → ℕ → Box → Seen
 seen_of file at b = truth_in 16 (part_at file at) b
-
--- and a number
-unfoldable pub extent_at : List ℕ → ℕ → Box → Extent
-extent_at file at b = number_in 16 (part_at file at) b

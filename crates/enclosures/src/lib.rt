@@ -4,7 +4,7 @@ ghost use Rattle.records.specs.Kind.{number as number_sort, truth as truth_sort}
 ghost use Rattle.expressions.specs.Expression.{part_at};
 ghost use Rattle.expressions.specs.Spans.{Spans};
 ghost use Rattle.expressions.specs.Fits.{Fits};
-ghost use Rattle.enclosures.specs.Enclosure.{number_in, truth_in, seen_of, extent_at};
+ghost use Rattle.enclosures.specs.Enclosure.{number_in, truth_in, seen_of};
 
 use boxes::Box;
 use domains::extents::{Extent, combine, compare, divide, indicator, spanning};
@@ -92,13 +92,4 @@ pub fn seen_in(file: &[u8], spans: &[u16; 4096], at: usize, b: Box) -> Seen
     ensures { result ≡ seen_of file.now at b }
 {
     truth_in(&file[8 * at..], spans, at, b, 16)
-}
-
-// What is known of the number expression at record `at`.
-pub fn extent_at(file: &[u8], spans: &[u16; 4096], at: usize, b: Box) -> Extent
-    requires fits { Fits 16 number_sort (part_at file.now at) b.low }
-    requires spans { Spans file.now spans.now }
-    ensures { result ≡ extent_at file.now at b }
-{
-    number_in(&file[8 * at..], spans, at, b, 16)
 }

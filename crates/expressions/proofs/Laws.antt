@@ -6,4 +6,3 @@ pub mod Span
 pub mod Part
 pub mod Operand
 pub mod Local
-pub mod Numbers

@@ -66,10 +66,6 @@ unfoldable mutual
 unfoldable pub holds_of : List ℕ → ℕ → List ℤ → Bool
 holds_of file at state = truth 16 (part_at file at) state
 
--- for C1.18: and a number
-unfoldable pub value_of : List ℕ → ℕ → List ℤ → ℤ
-value_of file at state = number 16 (part_at file at) state
-
 -- for C2.1: the record behind the expression at record `at`
 unfoldable pub behind : List ℕ → ℕ → ℕ
 behind file at = at + span 16 (part_at file at)

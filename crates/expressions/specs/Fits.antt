@@ -6,7 +6,7 @@ use Rattle.records.specs.Form.Form.{Constant, Variable}
 use Rattle.records.specs.Record.{field_a, value_b}
 use Rattle.records.specs.Kind.{sort_for, signature_at, number as number_sort, truth as truth_sort, divisor as divisor_sort}
 use Rattle.records.specs.Form.{form_at}
-use Rattle.expressions.specs.Expression.{part_at, first_operand, second_operand, number, behind}
+use Rattle.expressions.specs.Expression.{part_at, first_operand, second_operand, number}
 
 -- the record that begins a part, where `want` is asked; a variable is one of twelve, a divisor a constant above 0
 pub record RecordFits (want : ℕ) (part : List ℕ) : Type 0 where
@@ -32,8 +32,3 @@ Fits (suc levels) want part state =
 -- a truth expression of a file, from its first record on
 abbrev pub TruthFits : List ℕ → ℕ → List ℤ → Type 0
 TruthFits file at state = Fits 16 truth_sort (part_at file at) state
-
--- n number expressions of a file, one behind the other, from record `at` on
-unfoldable pub NumbersFit : List ℕ → ℕ → ℕ → List ℤ → Type 0
-NumbersFit file zero at state = Unit {0}
-NumbersFit file (suc n) at state = Fits 16 number_sort (part_at file at) state × NumbersFit file n (behind file at) state

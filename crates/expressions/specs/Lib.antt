@@ -2,4 +2,3 @@
 pub mod Expression
 pub mod Spans
 pub mod Fits
-pub mod Numbers

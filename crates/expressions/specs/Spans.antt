@@ -2,7 +2,7 @@
 use Rattle.std.specs.Prelude.{◌≡◌, List, [], ◌∷◌, ◌++◌, ℕ, zero, suc, ◌+◌, ◌-◌, ◌/◌, ◌≤◌, length, get_or, replicate, ℤ}
 use Rattle.records.specs.Kind.{signature_at}
 use Rattle.records.specs.Walk.{span}
-use Rattle.expressions.specs.Expression.{part_at, behind}
+use Rattle.expressions.specs.Expression.{part_at}
 use Rattle.expressions.specs.Fits.{Fits}
 
 -- the entry of a record with so many operands, by the entries behind it: the first operand begins behind the record, the second behind the first
@@ -28,8 +28,3 @@ spans_of file = spans_from file (length file / 8) 0 ++ replicate (4096 - length 
 pub record Spans (part table : List ℕ) : Type 0 where
   pub enough : length part ≤ 32768
   pub right : (at levels want : ℕ) (state : List ℤ) → Fits levels want (part_at part at) state → get_or table at 0 ≡ span levels (part_at part at)
-
--- the record behind n expressions, one behind the other, from record `at` on
-unfoldable pub number_place : List ℕ → ℕ → ℕ → ℕ
-number_place file zero at = at
-number_place file (suc n) at = number_place file n (behind file at)

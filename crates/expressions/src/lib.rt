@@ -1,10 +1,10 @@
 // What the expression that a part of the file begins with is worth in a state.
 pub mod spans;
 
-ghost use Rattle.std.specs.Prelude.{◌≡◌, ◌+◌, ◌*◌, ◌≤◌, ◌<◌, length, get_or, drop};
+ghost use Rattle.std.specs.Prelude.{◌≡◌, ◌+◌, ◌*◌, ◌≤◌, length, drop};
 ghost use Rattle.records.specs.Record.{value_b};
 ghost use Rattle.records.specs.Kind.{number as number_sort, truth as truth_sort};
-ghost use Rattle.expressions.specs.Expression.{part_at, indicator_of, compare_of, number, truth, holds_of, value_of};
+ghost use Rattle.expressions.specs.Expression.{part_at, indicator_of, compare_of, number, truth, holds_of};
 ghost use Rattle.expressions.specs.Spans.{Spans};
 ghost use Rattle.expressions.specs.Fits.{Fits};
 
@@ -181,22 +181,4 @@ pub fn holds(file: &[u8], spans: &[u16; 4096], at: usize, state: [i16; 12]) -> b
     ensures { result ≡ holds_of file.now at state }
 {
     truth_at(&file[8 * at..], spans, at, state, 16)
-}
-
-// What the number expression at record `at` is worth in the state.
-pub fn value(file: &[u8], spans: &[u16; 4096], at: usize, state: [i16; 12]) -> i64
-    requires fits { Fits 16 number_sort (part_at file.now at) state }
-    requires spans { Spans file.now spans.now }
-    ensures { result ≡ value_of file.now at state }
-{
-    number_at(&file[8 * at..], spans, at, state, 16)
-}
-
-// The record behind the expression at record `at`, by its entry in the table.
-pub fn behind(spans: &[u16; 4096], at: usize) -> usize
-    requires there { at < 4096 }
-    requires small { at + get_or spans.now at 0 ≤ 4096 }
-    ensures { result ≡ at + get_or spans.now at 0 }
-{
-    at + spans[at] as usize
 }

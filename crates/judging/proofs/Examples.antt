@@ -16,7 +16,7 @@ use Rattle.verdicts.specs.Verdict.{check_of, single_of}
 use Rattle.report.specs.Report
 use Rattle.report.specs.Report.{report_of}
 use Rattle.conditions.specs.declared.Condition.{Condition}
-use Rattle.conditions.specs.declared.Condition.TheVariants.{Start, Entry, Cover, Rank, Range, Step, Enabling}
+use Rattle.conditions.specs.declared.Condition.TheVariants.{Start, Entry, Cover, Range, Step, Enabling}
 use Rattle.verdicts.specs.declared.Single.{Single}
 use Rattle.deciding.proofs.Computing.{deciding}
 
@@ -199,87 +199,10 @@ picks =
     (range 0 63 ∷ range 0 64 ∷ start ∷ plain 0x21 ∷ transition 0 ∷ true ∷ pick 0 0 63 ∷ pick 1 0 64 ∷ stays_inside, 0x16ffff0004000000, 0, 0) ∷
     []
 
--- C1.18: a ranked chain about D's counter, with the nodes v = 2 and v ≤ 1, their ranks, and these steps and edges
-abbrev at_most_one : List (List ℕ)
-at_most_one = plain 0x29 ∷ variable 0 ∷ constant 1 ∷ []
-
-abbrev ranking : List (List ℕ) → List (List ℕ) → List (List ℕ) → List (List ℕ) → List (List ℕ)
-ranking steps goal rank edges = take 13 D ++ steps ++ (property 4 0 ∷ true ∷ is 0 2) ++ (node ∷ is 0 2 ++ goal) ++ (node ∷ at_most_one ++ rank) ++ edges
-
-abbrev to_both : List (List ℕ)
-to_both = double 0 1 1 ∷ double 0 1 0 ∷ []
-
--- 1 - v: how many steps are left before the last
-abbrev pub left : List (List ℕ)
-left = plain 0x13 ∷ constant 1 ∷ variable 0 ∷ []
-
-abbrev pub ranked : List (List ℕ) → List (List ℕ)
-ranked rank = ranking [] (constant 0 ∷ []) rank to_both
-
--- a second step, not just: one that changes nothing, and D's once more
-abbrev idle : List (List ℕ)
-idle = transition 0 ∷ true ∷ []
-
-abbrev again : List (List ℕ)
-again = transition 0 ∷ drop 6 (take 13 D)
-
--- the nodes v = 2, v = 0 and v = 1, with the ranks 0, 1 and 0
-abbrev rising : List (List ℕ)
-rising =
-    take 13 D ++ (property 4 0 ∷ true ∷ is 0 2) ++ (node ∷ is 0 2 ++ constant 0 ∷ []) ++ (node ∷ is 0 0 ++ constant 1 ∷ []) ++
-    (node ∷ is 0 1 ++ constant 0 ∷ double 0 1 2 ∷ double 0 2 0 ∷ [])
-
--- the nodes 1 ≤ v, which is q too, and v ≤ 1
-abbrev beside_goal : List (List ℕ)
-beside_goal =
-    take 13 D ++ (property 4 0 ∷ true ∷ at_least_one) ++ (node ∷ at_least_one ++ constant 0 ∷ []) ++ (node ∷ at_most_one ++ left) ++ to_both
-  where
-    at_least_one : List (List ℕ)
-    at_least_one = plain 0x29 ∷ constant 1 ∷ variable 0 ∷ []
-
-abbrev ranks : List Row
-ranks =
-    -- C8.18: the rank falls to 0, and from there the goal's edge leads on, whatever the goal's rank is
-    (ranked left, 0x00ffff0006000000, 0, 18) ∷
-    (ranking [] (constant 7 ∷ []) left to_both, 0x00ffff0006000000, 0, 18) ∷
-    (ranking [] (constant 65529 ∷ []) left to_both, 0x00ffff0006000000, 0, 18) ∷
-    -- an edge with an equal rank; one with a higher
-    (ranked (constant 1 ∷ []), 0x1101000004000000, 0, 13) ∷
-    (ranked (variable 0 ∷ []), 0x1101000004000000, 0, 13) ∷
-    -- no edge to the goal; none to the node itself, which a double step may not keep
-    (ranking [] (constant 0 ∷ []) left (double 0 1 1 ∷ []), 0x1101000004000000, 0x0100000000000000, 14) ∷
-    (ranking [] (constant 0 ∷ []) left (double 0 1 0 ∷ []), 0x1101000004000000, 0, 13) ∷
-    -- without an edge the node is kept with an equal rank, and with no lower one
-    (ranking idle (constant 0 ∷ []) left to_both, 0x00ffff0008000000, 0, 24) ∷
-    (ranking again (constant 0 ∷ []) left to_both, 0x1101010007000000, 0, 22) ∷
-    (ranking again (constant 0 ∷ []) left (to_both ++ single 1 1 1 ∷ single 1 1 0 ∷ []), 0x00ffff0008000000, 0, 24) ∷
-    (ranking again (constant 0 ∷ []) left (to_both ++ single 1 1 1 ∷ []), 0x1101010007000000, 0x0100000000000000, 23) ∷
-    -- each successor: the pick of 1 at 1 leaves the rank as it is
-    (updating (pick 0 2 2 ∷ []) (ranked left), 0x00ffff0006000000, 0, 18) ∷
-    (updating (pick 0 1 2 ∷ []) (ranked left), 0x1101000004000000, 0x0100000000000000, 14) ∷
-    -- node 0 is true beside the other
-    (beside_goal, 0x00ffff0006000000, 0, 18) ∷
-    -- C8.17, C10.21: a rank below 0, at the one state of two where it is; before the step condition that is broken too
-    (ranked (plain 0x13 ∷ constant 0 ∷ variable 0 ∷ []), 0x1501ff0002000000, 0x0100000000000000, 8) ∷
-    (ranked (constant 65535 ∷ []), 0x1501ff0002000000, 0, 7) ∷
-    -- C9.10: an edge that rises; C9.2, C9.6, C9.9, C10.9, C10.10: one from the goal, a step that is not just, no double edge
-    (rising, 0x00ffff000a000000, 0, 30) ∷
-    (ranked left ++ single 0 0 1 ∷ [], 0x09ffff0020000000, 0, 0) ∷
-    (set (ranked left) 5 (transition 0), 0x09ffff001e000000, 0, 0) ∷
-    (ranking [] (constant 0 ∷ []) left [], 0x0affff0001000000, 0, 0) ∷
-    -- C1.4, C1.10, C10.4: b is not zero, and a is 6
-    (set (ranked left) 13 (property 4 1), 0x04ffff000d000000, 0, 0) ∷
-    (set (ranked left) 13 (property 6 0), 0x04ffff000d000000, 0, 0) ∷
-    -- C10.3: node 1 lacks its rank, node 0 does; C3.5, C10.8: the goal's rank is judged too
-    (ranked [], 0x03ffff001b000000, 0, 0) ∷
-    (ranking [] [] left to_both, 0x03ffff0016000000, 0, 0) ∷
-    (ranking [] (plain 0x14 ∷ constant 2000 ∷ constant 2000 ∷ []) left to_both, 0x08ffff0016000000, 0, 0) ∷
-    []
-
 abbrev table : List Row
-table = marked ++ broken ++ rings ++ starts ++ picks ++ ranks
+table = marked ++ broken ++ rings ++ starts ++ picks
 
--- ---- lists of conditions (C8.3 to C8.6, C8.16)
+-- ---- lists of conditions (C8.3 to C8.6)
 abbrev listed : List ℕ → Reading → List Condition
 listed file (Reading.Found o) = conditions_of file (diagram_of file o)
 listed file (Reading.Refused number place) = []
@@ -297,10 +220,6 @@ lists =
       take 13 D ++ drop 5 D,
       Entry ∷ Cover 0 ∷ Range 1 0 ∷ Step 1 0 ∷ Enabling 1 0 ∷ Range 1 1 ∷ Step 1 1 ∷
           Range 2 0 ∷ Step 2 0 ∷ Enabling 2 0 ∷ Range 2 1 ∷ Step 2 1 ∷ [],
-    ) ∷
-    (ranked left, Entry ∷ Cover 0 ∷ Rank 1 0 ∷ Range 1 0 ∷ Step 1 0 ∷ Enabling 1 0 ∷ []) ∷ (
-      rising,
-      Entry ∷ Cover 0 ∷ Rank 1 0 ∷ Rank 2 0 ∷ Range 1 0 ∷ Step 1 0 ∷ Enabling 1 0 ∷ Range 2 0 ∷ Step 2 0 ∷ Enabling 2 0 ∷ [],
     ) ∷
     []
 
@@ -336,11 +255,6 @@ singles =
     ((beside, 3, 1), Single.Fails) ∷
     ((beside, 3, 2), Single.Holds) ∷
     ((beside, 2, 2), Single.Fails) ∷
-    -- C8.17, C8.18: a rank, and a step by ranks, each where it holds and where it doesn't
-    ((ranked (plain 0x13 ∷ constant 0 ∷ variable 0 ∷ []), 2, 0), Single.Holds) ∷
-    ((ranked (plain 0x13 ∷ constant 0 ∷ variable 0 ∷ []), 2, 1), Single.Fails) ∷
-    ((ranked (constant 1 ∷ []), 4, 0), Single.Fails) ∷
-    ((ranked (constant 1 ∷ []), 4, 1), Single.Holds) ∷
     []
 
 -- ---- what antt computes

@@ -1,35 +1,33 @@
--- Nothing is claimed of an empty set: for each of the four claims (C7.1, C7.3, C7.5, C7.12) an accepted file (B, H and D of C16.1, and a ranked chain of the
--- table of examples) that makes it, with a run that the claim speaks of: from a starting state unless said otherwise, and it idles and moves.
+-- Nothing is claimed of an empty set: for each of the three claims (C7.1, C7.3, C7.5) an accepted file (B, H and D of C16.1) that makes it, with a run that
+-- the claim speaks of: from a starting state unless said otherwise, and it idles and moves.
 --     invariance-met     B: a finite run
 --     wait-for-met       H: an endless run from a state where p holds, and q_0 does not hold at the four positions from there on
 --     chain-met          D, whose step is just: an endless run, 2-just and just, from a state where p holds; q holds 2 × 2 steps on, and not before
 --     chain-met-late     the same from v = 1, which is no starting state; q holds 1 × 2 steps on, and not before
---     ranked-met         a rank of 1 - v: an endless run, 2-just and just, from v = 0, where the rank is 1; the goal comes (1 + 1) × 2 steps on, and not before
 -- Assumes nothing.
 use mathlib.Core.Path.{◌≡◌, refl}
 use mathlib.Core.Logic.{inl, inr}
 use mathlib.Core.Bool.{not}
-use mathlib.Core.List.{List, [], ◌∷◌, flatten}
+use mathlib.Core.List.{List, [], ◌∷◌}
 use Prim.Native.Nat.{ℕ, zero, suc, ◌+◌, ◌<◌, ◌≤◌}
 use native.Mathlib.Nat.{add-zero}
 use native.Mathlib.Omega.{arith}
 use lib.Dec.{T, lit<, lit≤}
-use lib.IntN.{ℤ, pos}
+use lib.IntN.{ℤ}
 use Rattle.diagrams.specs.declared.Diagram.{Diagram}
 use Rattle.shapes.specs.declared.Claim.{Claim}
 use Rattle.shapes.specs.declared.Outline.{Outline}
 use Rattle.shapes.specs.declared.Reading.{Reading}
 use Rattle.diagrams.specs.Diagram.{found_of, diagram_of, State}
-use Rattle.diagrams.specs.Truth.{start_holds, node_holds, p_holds, q_holds}
+use Rattle.diagrams.specs.Truth.{start_holds, p_holds, q_holds}
 use Rattle.verdicts.specs.Verdict.{check_of}
 use Rattle.runs.specs.Run.{Run, finite, endless, Position, at, Next, IsRun, DisabledOrTaken, Just, KJust}
-use Rattle.runs.specs.Claim.{Waiting, met}
-use Rattle.soundness.specs.System.{system_of, rank_of}
-use Rattle.diagrams.proofs.Computing.{computing}
+use Rattle.runs.specs.Claim.{Waiting}
+use Rattle.soundness.specs.System.{system_of}
 use Rattle.diagrams.proofs.Files.{o_b, o_d, o_h}
-use Rattle.diagrams.proofs.Values.{v, state}
+use Rattle.diagrams.proofs.Values.{v}
 use Rattle.judging.proofs.Counter.{Counter, b, g_b, d, g_d, h, g_h, B_counts, D_counts, H_counts}
-use Rattle.judging.proofs.Examples.{ranked, left, reporting}
+use Rattle.judging.proofs.Examples.{reporting}
 
 -- ---- runs of the counter: 0 0 1 1 2, and then 2 for ever or to the end
 pub σ : ℕ → List ℤ
@@ -187,42 +185,3 @@ chain_met_late = (
     unmet zero l = tt
     unmet (suc zero) l = tt
     unmet (suc (suc j)) l = absurd (omega arith)
-
--- the nodes v = 2 and v ≤ 1, the latter's rank 1 - v
-abbrev k : List ℕ
-k = flatten (ranked left)
-
-abbrev o_k : Outline
-o_k = record { vars = 1; transition = 5; transitions = 1; property = 13; node = 18; nodes = 2; edge = 30; edges = 2 }
-
-abbrev g_k : Diagram
-g_k = diagram_of k o_k
-
-K_counts : Counter k g_k
-unfolding computing
-K_counts = record { states = state; transitions = refl; zero_on = (tt, inl refl); one_on = (tt, inl refl); two_off = tt }
-
-pub ranked_met : Accepted k o_k Claim.RankedChain × IsRun (system_of k g_k) (endless σ) × T (start_holds k g_k (σ 0)) × KJust (system_of k g_k) 2 σ
-    × Just (system_of k g_k) σ × T (p_holds k g_k (σ 0)) × (rank_of k g_k 1 (σ 0) ≡ pos 1) × Idles (endless σ) × Moves (endless σ)
-    × ((j : ℕ) → j < 4 → T (not (node_holds k g_k 0 (σ j)))) × T (met (node_holds k g_k) (q_holds k g_k 0) (σ 4))
-unfolding σ reporting
-ranked_met = (
-  (refl, refl, refl),
-  σ_run k g_k K_counts,
-  tt,
-  (λ t l j n. taken k g_k K_counts t l n),
-  (λ t l j n. let x = taken k g_k K_counts t l n in (x.0, x.2)),
-  tt,
-  refl,
-  (0, tt, refl),
-  (1, tt, apart (lit< tt)),
-  unmet,
-  tt,
-)
-  where
-    unmet : (j : ℕ) → j < 4 → T (not (node_holds k g_k 0 (σ j)))
-    unmet zero l = tt
-    unmet (suc zero) l = tt
-    unmet (suc (suc zero)) l = tt
-    unmet (suc (suc (suc zero))) l = tt
-    unmet (suc (suc (suc (suc j)))) l = absurd (omega arith)

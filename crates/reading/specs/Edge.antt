@@ -24,11 +24,11 @@ unfoldable pub conflict_of : Edge → Edge → Bool
 conflict_of a b =
     eqb a.from b.from && cond (eqb a.transition b.transition) (not (beq a.double b.double)) (a.double && b.double)
 
--- C9.2, C9.3, C9.10: where the property asks it; an invariance doesn't (C9.1)
+-- C9.2, C9.3: where the property asks it; an invariance doesn't (C9.1)
 unfoldable pub leads_of : Property → Edge → Bool
 leads_of p e = leb p.from e.from && (p.rising || leb e.to e.from)
 
--- C9.5, C9.10: a double edge falls, where edges may not rise
+-- C9.5: a double edge falls, where edges may not rise
 unfoldable pub falls_of : Property → Edge → Bool
 falls_of p e = p.rising || ltb e.to e.from
 

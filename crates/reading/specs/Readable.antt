@@ -1,12 +1,12 @@
 -- What is promised of a readable file, for the layers above: its start, transitions, property, nodes, edges and double transitions; and what refusal 8 says.
-use Rattle.std.specs.Prelude.{◌≡◌, true, false, List, [], ◌∷◌, ℕ, suc, ◌+◌, ◌<◌, ◌≤◌, ◌≤ℤ◌}
+use Rattle.std.specs.Prelude.{◌≡◌, true, false, List, [], ◌∷◌, ℕ, ◌+◌, ◌<◌, ◌≤◌, ◌≤ℤ◌}
 use Rattle.integers.specs.declared.Interval.{Interval}
 use Rattle.integers.specs.Interval.{in_bounds}
 use Rattle.records.specs.declared.walk.Walked.{Walked}
 use Rattle.shapes.specs.declared.Outline.{Outline}
 use Rattle.records.specs.Record.{kind_at, field_a, value_b, value_c, kind_is}
 use Rattle.records.specs.Kind.{number, truth, signature_at}
-use Rattle.records.specs.Walk.{in_sequence, truth_of}
+use Rattle.records.specs.Walk.{in_sequence, walk_of, truth_of}
 use Rattle.shapes.specs.declared.Edge.{Edge}
 use Rattle.sections.specs.Section.{property_at, edge_at, is_update, transition_of, node_of}
 use Rattle.intervals.specs.declared.Analysis.{Analysis}
@@ -59,11 +59,6 @@ pub record PropertyExpression (file : List ℕ) (o : Outline) (i : ℕ) : Type 0
   pub interval : Interval
   pub expression : Expression file o.vars 16 truth place end interval
 
--- n numbers in a row, from record `at` to `end`
-pub data Numbers (file : List ℕ) (vars end : ℕ) : ℕ → ℕ → Type 0 where
-  none : Numbers file vars end 0 end
-  more : {n at mid : ℕ} {i : Interval} → Expression file vars 16 number at mid i → Numbers file vars end n mid → Numbers file vars end (suc n) at
-
 -- node n: it stands at `place`, behind n others; then its assertion, to `mid`; then its ranks
 pub record Node (file : List ℕ) (o : Outline) (n : ℕ) : Type 0 where
   pub place : ℕ
@@ -73,7 +68,7 @@ pub record Node (file : List ℕ) (o : Outline) (n : ℕ) : Type 0 where
   pub named : kind_is file 0x06 place ≡ true
   pub interval : Interval
   pub assertion : Expression file o.vars 16 truth (place + 1) mid interval
-  pub ranks : Numbers file o.vars end (property_at file o.property).ranks mid
+  pub ranks : in_sequence (walk_of file o.vars 16 number) (property_at file o.property).ranks mid ≡ Walked.End end
 
 -- ---- edges
 -- edge e, and it names a transition and two nodes of the file

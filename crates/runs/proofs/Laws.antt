@@ -1,10 +1,8 @@
-pub mod Least
 pub mod Lowest
 pub mod Diagram
 pub mod Run
 pub mod Falling
 pub mod Ranked
 pub mod Chain
-pub mod RankedChain
 pub mod WaitFor
 pub mod Invariance

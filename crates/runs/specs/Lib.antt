@@ -1,3 +1,3 @@
--- Fair transition systems, their runs, and the claims about these.
+-- Fair transition systems, their runs, and the three claims about these.
 pub mod Run
 pub mod Claim

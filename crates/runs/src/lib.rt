@@ -1,1 +1,1 @@
-// Fair transition systems, their runs, and the claims about these.
+// Fair transition systems, their runs, and the three claims about these.

@@ -9,7 +9,6 @@ pub enum Claim {
     Invariance,
     WaitFor,
     Chain,
-    RankedChain,
     Unknown,
 }
 
@@ -77,7 +76,6 @@ pub fn claim_of(a: u8) -> Claim
         1 => Claim::Invariance,
         2 => Claim::WaitFor,
         3 => Claim::Chain,
-        4 => Claim::RankedChain,
         _ => Claim::Unknown,
     }
 }
@@ -116,16 +114,6 @@ pub fn property_of(claim: Claim) -> Property
             rising: false,
             doubles: true,
             ranks: 0,
-        },
-        Claim::RankedChain => Property {
-            known: true,
-            phased: false,
-            entry: true,
-            covered: false,
-            from: 1,
-            rising: true,
-            doubles: true,
-            ranks: 1,
         },
         Claim::Unknown => Property {
             known: false,

@@ -3,4 +3,3 @@ mod System
 mod Claims
 mod Picks
 mod Computing
-mod Ranked

@@ -5,18 +5,17 @@ ghost use Rattle.std.specs.Prelude.{◌≡◌, [], ◌∷◌, ℕ, ◌≤◌, �
 ghost use Rattle.diagrams.specs.Diagram.{Loaded};
 ghost use Rattle.conditions.specs.Edges.{carries};
 ghost use Rattle.conditions.specs.Condition.{Listed};
-ghost use Rattle.testing.specs.Testing.{marks_of, targets_of, chosen_of, prepared_of, ranked_of, denial_of, step_test, test_of};
+ghost use Rattle.testing.specs.Testing.{marks_of, targets_of, chosen_of, prepared_of, denial_of, test_of};
 
 use conditions::{Condition, double_of};
 use diagrams::{Diagram, claimed_at, edge_of, q_at};
-use shapes::{Edge, property_of};
+use shapes::Edge;
 
-// What a condition's premise must imply: that one of the targets is true; that the last of its ranks is at least 0; that a true guard goes with values in
-// range; that a step leads to one of the targets; that the transition is enabled.
+// What a condition's premise must imply: that one of the targets is true; that a true guard goes with values in range; that a step leads to one of
+// the targets; that the transition is enabled.
 #[derive(Drop)]
 pub enum Conclusion {
     SomeTarget,
-    NotNegative,
     ValuesInRange,
     Reached,
     Enabled,
@@ -29,8 +28,7 @@ pub struct Targets {
     pub count: usize,
 }
 
-// A condition, with the records that it speaks of. Of the targets of a step, the first `free` may be reached whatever their ranks; those behind must have
-// lower ranks than the premise had, and where `keep` says so, the premise may be kept with equal ones. `ranks`: how many ranks of a node it speaks of.
+// A condition, with the records that it speaks of.
 #[derive(Drop)]
 pub struct Test {
     pub premise: usize,
@@ -38,9 +36,6 @@ pub struct Test {
     pub transition: usize,
     pub targets: [u16; 32],
     pub count: usize,
-    pub free: usize,
-    pub ranks: usize,
-    pub keep: bool,
 }
 
 // Whether the edge is one of this transition from this node.
@@ -122,56 +117,7 @@ fn prepared(premise: usize, conclusion: Conclusion, transition: usize, targets: 
         transition,
         targets: places,
         count: targets.count,
-        free: targets.count,
-        ranks: 0,
-        keep: false,
     }
-}
-
-// The test, with what it asks of ranks.
-fn ranked(test: Test, free: usize, ranks: usize, keep: bool) -> Test
-    ensures { result ≡ ranked_of test free ranks keep }
-{
-    let conclusion = test.conclusion;
-    let targets = test.targets;
-    Test {
-        premise: test.premise,
-        conclusion,
-        transition: test.transition,
-        targets,
-        count: test.count,
-        free,
-        ranks,
-        keep,
-    }
-}
-
-// The test of a step.
-fn step_test(file: &[u8], diagram: Diagram, node: usize, transition: usize) -> Test
-    requires loaded { Loaded file.now diagram }
-    requires node { node < diagram.nodes }
-    requires transition { transition < diagram.transitions }
-    ensures { result ≡ step_test file.now diagram node transition }
-{
-    let assertions = diagram.assertions;
-    let steps = diagram.steps;
-    let claim = diagram.claim;
-    let step = steps[transition];
-    let keep = double_of(file, diagram, node) != transition;
-    let property = property_of(claim);
-    let ranks = property.ranks;
-    if ranks == 0 {
-        let marks = marks(file, diagram, node, transition, keep);
-        let targets = choose(marks, assertions, diagram.nodes);
-        return prepared(assertions[node], Conclusion::Reached, step, targets);
-    }
-    let marks = marks(file, diagram, node, transition, false);
-    let targets = choose(marks, assertions, diagram.nodes);
-    let test = prepared(assertions[node], Conclusion::Reached, step, targets);
-    if marks[0] {
-        return ranked(test, 1, ranks, keep);
-    }
-    ranked(test, 0, ranks, keep)
 }
 
 // The test that the truth at a place is false.
@@ -203,15 +149,17 @@ pub fn test_of(file: &[u8], diagram: Diagram, condition: Condition) -> Test
             let q = one(q_at(file, diagram, n));
             prepared(assertions[n], Conclusion::SomeTarget, 0, q)
         }
-        Condition::Rank(n, i) => {
-            let test = prepared(assertions[n], Conclusion::NotNegative, 0, none());
-            ranked(test, 0, i + 1, false)
-        }
         Condition::Range(n, t) => {
             let step = steps[t];
             prepared(assertions[n], Conclusion::ValuesInRange, step, none())
         }
-        Condition::Step(n, t) => step_test(file, diagram, n, t),
+        Condition::Step(n, t) => {
+            let step = steps[t];
+            let keep = double_of(file, diagram, n) != t;
+            let marks = marks(file, diagram, n, t, keep);
+            let targets = choose(marks, assertions, diagram.nodes);
+            prepared(assertions[n], Conclusion::Reached, step, targets)
+        }
         Condition::Enabling(n, t) => {
             let step = steps[t];
             prepared(assertions[n], Conclusion::Enabled, step, none())

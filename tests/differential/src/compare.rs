@@ -75,7 +75,6 @@ impl Facts {
                 Claim::Invariance { .. } => 1,
                 Claim::WaitFor { .. } => 2,
                 Claim::Chain { .. } => 3,
-                Claim::RankedChain { .. } => 4,
             },
             None => 0,
         }

@@ -4,7 +4,6 @@
 
 mod diagrams;
 mod picks;
-mod ranks;
 mod starts;
 
 use std::ops::Range;
@@ -420,10 +419,8 @@ enum Twist {
     Intervals,
     /// Edges put in without regard to the edge rules.
     EdgeRules,
-    /// A node of a chain, ranked or not, loses its double edges.
+    /// A chain node loses its double edges.
     NoDouble,
-    /// A rank is lacking, is no number, or stands where none may.
-    Ranks,
     /// A wait-for with a special b.
     Phases,
     /// Many quotients and remainders, and a divisor that isn't one.
@@ -433,7 +430,7 @@ enum Twist {
 }
 
 /// The twists with how often they are wanted; those that make long files, seldom.
-const TWISTS: [(Twist, usize); 16] = [
+const TWISTS: [(Twist, usize); 15] = [
     (Twist::Variables, 8),
     (Twist::Transitions, 4),
     (Twist::Nodes, 10),
@@ -445,8 +442,7 @@ const TWISTS: [(Twist, usize); 16] = [
     (Twist::Ranges, 12),
     (Twist::Intervals, 20),
     (Twist::EdgeRules, 20),
-    (Twist::NoDouble, 14),
-    (Twist::Ranks, 8),
+    (Twist::NoDouble, 12),
     (Twist::Phases, 4),
     (Twist::Divisor, 16),
     (Twist::Records, 1),
@@ -479,9 +475,6 @@ impl Twists {
 pub const INVARIANCE: u8 = 1;
 pub const WAIT_FOR: u8 = 2;
 pub const CHAIN: u8 = 3;
-pub const RANKED: u8 = 4;
-/// The properties whose nodes but the goal have double edges.
-pub const CHAINS: [u8; 2] = [CHAIN, RANKED];
 
 #[derive(Clone)]
 pub struct Transition {
@@ -517,8 +510,6 @@ pub struct Draft {
     pub b: i16,
     pub truths: Vec<Code>,
     pub nodes: Vec<Code>,
-    /// What stands behind the nodes: in a ranked chain their ranks, otherwise nothing.
-    pub ranks: Vec<Code>,
     pub edges: Vec<Edge>,
 }
 
@@ -535,15 +526,12 @@ struct Plan {
 impl Plan {
     fn random(random: &mut Random, twists: &Twists) -> Plan {
         let property = if twists.has(Twist::NoDouble) {
-            random.pick(&CHAINS)
-        } else if twists.has(Twist::Ranks) && random.percent(70) {
-            RANKED
+            CHAIN
         } else if twists.has(Twist::Phases) {
             WAIT_FOR
         } else {
-            random.pick(&[INVARIANCE, WAIT_FOR, CHAIN, RANKED])
+            random.pick(&[INVARIANCE, WAIT_FOR, CHAIN])
         };
-        let chain = CHAINS.contains(&property);
 
         let most = random.pick(&[5, 5, 5, 5, 5, 5, 5, 5, 5, 32]);
         let mut nodes = 1 + random.below(most);
@@ -551,7 +539,7 @@ impl Plan {
             nodes = 20 + random.below(13);
         }
         let mut b = 0;
-        let mut truths = if chain { 2 } else { 1 };
+        let mut truths = if property == CHAIN { 2 } else { 1 };
         if property == WAIT_FOR {
             b = nodes as i16;
             if twists.has(Twist::Nodes) && random.percent(25) {
@@ -571,7 +559,7 @@ impl Plan {
         }
 
         let sets = twists.has(Twist::Assignments) || twists.has(Twist::Picks);
-        let needed = sets || chain && nodes > 1;
+        let needed = sets || property == CHAIN && nodes > 1;
         let transitions = if twists.has(Twist::Transitions) {
             32 + random.below(2)
         } else if twists.has(Twist::Edges) {
@@ -632,10 +620,6 @@ impl Draft {
             b: plan.b,
             truths: (0..plan.truths).map(|_| grower.any_truth(short)).collect(),
             nodes: (0..plan.nodes).map(|_| grower.any_truth(short)).collect(),
-            ranks: match plan.property {
-                RANKED => (0..plan.nodes).map(|_| grower.rank(short)).collect(),
-                _ => Vec::new(),
-            },
             edges: Vec::new(),
         };
         if twists.has(Twist::Picks) {
@@ -649,9 +633,6 @@ impl Draft {
         }
         if twists.has(Twist::Divisor) {
             draft.spoil_divisor(random);
-        }
-        if twists.has(Twist::Ranks) {
-            draft.spoil_rank(random);
         }
 
         draft.draw(random, plan.edges);
@@ -691,10 +672,9 @@ impl Draft {
         }
         records.push(record(0x05, self.property, self.b, 0, 0));
         records.extend(self.truths.iter().flatten());
-        for (number, node) in self.nodes.iter().enumerate() {
+        for node in &self.nodes {
             records.push(plain(0x06));
             records.extend(node);
-            records.extend(self.ranks.get(number).into_iter().flatten());
         }
         for edge in &self.edges {
             let (from, to) = (edge.from as i16, edge.to as i16);
@@ -709,15 +689,14 @@ impl Draft {
         records
     }
 
-    /// Draws about that many edges by the rules: a chain's double edges, then any. Those of a ranked
-    /// chain lead anywhere.
+    /// Draws about that many edges by the rules: a chain's double edges, then any.
     fn draw(&mut self, random: &mut Random, count: usize) {
         let (transitions, nodes) = (self.transitions.len(), self.nodes.len());
         if transitions == 0 || nodes == 0 {
             return;
         }
         let mut doubles = vec![None; nodes];
-        if CHAINS.contains(&self.property) {
+        if self.property == CHAIN {
             self.transitions[random.below(transitions)].just = true;
             let just: Vec<usize> = (0..transitions)
                 .filter(|&transition| self.transitions[transition].just)
@@ -728,10 +707,7 @@ impl Draft {
                 self.edges.push(Edge {
                     transition,
                     from: node,
-                    to: match self.property {
-                        RANKED => random.below(nodes),
-                        _ => random.below(node),
-                    },
+                    to: random.below(node),
                     double: true,
                 });
             }
@@ -743,7 +719,6 @@ impl Draft {
             let (from, to) = match self.property {
                 INVARIANCE => (random.below(nodes), random.below(nodes)),
                 _ if nodes == 1 => break,
-                RANKED => (1 + random.below(nodes - 1), random.below(nodes)),
                 _ => {
                     let from = 1 + random.below(nodes - 1);
                     (from, random.below(from + 1))
@@ -757,7 +732,7 @@ impl Draft {
                 to,
                 double,
             };
-            let stays = double && to == from && self.property != RANKED;
+            let stays = double && to == from;
             if !stays && !self.edges.contains(&edge) {
                 self.edges.push(edge);
             }
@@ -808,7 +783,6 @@ impl Draft {
         let mut codes: Vec<&mut Code> = vec![&mut self.start];
         codes.extend(&mut self.truths);
         codes.extend(&mut self.nodes);
-        codes.extend(&mut self.ranks);
         for transition in &mut self.transitions {
             codes.extend(transition.assignments.iter_mut().map(|(_, number)| number));
             codes.push(&mut transition.guard);
@@ -912,15 +886,10 @@ impl Grower<'_> {
         }
     }
 
-    /// One truth gets about 16 levels, and so do some assigned numbers and ranks.
+    /// One truth gets about 16 levels, and so do some assigned numbers.
     fn deepen(&mut self, draft: &mut Draft) {
         let levels = self.random.pick(&[15, 16, 16, 16, 17, 17, 18, 20]);
         let deep = self.truth(levels, true);
-        for rank in &mut draft.ranks {
-            if self.random.percent(20) {
-                *rank = self.number(levels, true).0;
-            }
-        }
         let mut places: Vec<&mut Code> = vec![&mut draft.start];
         places.extend(&mut draft.truths);
         places.extend(&mut draft.nodes);
@@ -1099,9 +1068,6 @@ pub fn file(random: &mut Random, samples: &Samples) -> Vec<u8> {
             } else if random.percent(20) {
                 picks::damage(random, &mut records);
                 times -= 1;
-            } else if random.percent(15) {
-                ranks::damage(random, &mut records);
-                times -= 1;
             }
             let mut file = records.concat();
             for _ in 0..times {
@@ -1210,8 +1176,8 @@ fn likely_record(random: &mut Random) -> Record {
             small() as i16,
             0,
         ),
-        0x05 => match random.below(5) {
-            2 => record(kind, 2, 1 + random.below(4) as i16, 0, 0),
+        0x05 => match small() {
+            2 => record(kind, 2, 1 + small() as i16, 0, 0),
             a => record(kind, a as u8, 0, 0, 0),
         },
         0x07 => record(

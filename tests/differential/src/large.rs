@@ -2,8 +2,7 @@
 //! answer, worked out by hand.
 
 use crate::generate::{
-    constant, join, plain, record, Code, Draft, Edge, Pick, Transition, CHAIN, CHAINS, INVARIANCE,
-    RANKED, WAIT_FOR,
+    constant, join, plain, record, Code, Draft, Edge, Pick, Transition, CHAIN, INVARIANCE, WAIT_FOR,
 };
 use independent::Verdict;
 
@@ -62,8 +61,7 @@ fn from_the_middle() -> Code {
     join(0x23, &[&at_least, &equal(&variable(3), &value(7))])
 }
 
-/// Variable 0 falls to 0: one transition, nodes "it is 0" and "it is not"; of a ranked chain with the
-/// ranks 5 and 0.
+/// Variable 0 falls to 0: one transition, nodes "it is 0" and "it is not".
 fn falling(property: u8, guard: Code) -> Draft {
     let zero = equal(&variable(0), &value(0));
     let nodes = vec![zero.clone(), not(&zero)];
@@ -82,15 +80,11 @@ fn falling(property: u8, guard: Code) -> Draft {
         b: if property == WAIT_FOR { 2 } else { 0 },
         truths,
         nodes,
-        ranks: match property {
-            RANKED => vec![value(5), value(0)],
-            _ => Vec::new(),
-        },
         edges: vec![Edge {
             transition: 0,
             from: 1,
             to: 0,
-            double: CHAINS.contains(&property),
+            double: property == CHAIN,
         }],
     }
 }
@@ -108,7 +102,6 @@ fn keeping(start: Code, q: Code, node: Code) -> Draft {
         b: 0,
         truths: vec![q],
         nodes: vec![node],
-        ranks: Vec::new(),
         edges: Vec::new(),
     }
 }
@@ -166,7 +159,7 @@ fn starts() -> Vec<Large> {
     let mut list = Vec::new();
     // Variable 2 is in -20..-5.
     let out_of_reach = join(0x28, &[&variable(0), &variable(2)]);
-    for (property, total) in [(INVARIANCE, 4), (WAIT_FOR, 5), (CHAIN, 5), (RANKED, 6)] {
+    for (property, total) in [(INVARIANCE, 4), (WAIT_FOR, 5), (CHAIN, 5)] {
         for (name, start, number, at) in [
             ("out of reach", &out_of_reach, 20, 0),
             ("odd and even", &odd_and_even(), 20, 0),
@@ -226,7 +219,6 @@ fn from_the_last(v: i16, w: i16) -> Draft {
         b: 2,
         truths: vec![last.clone(), always(), always()],
         nodes: vec![not(&here(v, w)), last],
-        ranks: Vec::new(),
         edges: vec![Edge {
             transition: 0,
             from: 1,
@@ -294,58 +286,10 @@ fn picks() -> Vec<Large> {
     list
 }
 
-/// C8.17, C8.18: variable 0 falls by one at a time, and the node that isn't the goal has this rank.
-/// Conditions: 0 entry, 1 cover, 2 rank, 3 range, 4 step, 5 enabling.
-fn counting_down(rank: Code) -> Draft {
-    let mut draft = falling(RANKED, not(&equal(&variable(0), &value(0))));
-    let next = join(0x13, &[&variable(0), &value(1)]);
-    draft.transitions[0].assignments = vec![(0, next)];
-    draft.ranks[1] = rank;
-    draft.edges.push(Edge {
-        to: 1,
-        ..draft.edges[0]
-    });
-    draft
-}
-
-fn ranks() -> Vec<Large> {
-    let times = |truth: &Code, by| join(0x14, &[&value(by), &join(0x15, &[truth])]);
-    let less = |number: &Code, by: &Code| join(0x13, &[number, by]);
-    // 31 at the last state, and so -1.
-    let low_at_last = less(&variable(0), &times(&last_state(), 32));
-    // 30 at the last state, which leads to one with 30.
-    let same_at_last = less(&variable(0), &times(&last_state(), 1));
-    let most = 1_048_576;
-    vec![
-        large(
-            "counting down, accepted",
-            counting_down(variable(0)),
-            0,
-            6,
-            6 * most,
-        ),
-        large(
-            "counting down, rank broken at the last state",
-            counting_down(low_at_last),
-            21,
-            2,
-            3 * most,
-        ),
-        large(
-            "counting down, step broken at the last state",
-            counting_down(same_at_last),
-            17,
-            4,
-            5 * most,
-        ),
-    ]
-}
-
 pub fn cases() -> Vec<Large> {
     let others = || not(&last_state());
     let mut list = starts();
     list.extend(picks());
-    list.extend(ranks());
     list.extend([
         large(
             "an invariance, accepted",

@@ -1,12 +1,10 @@
-//! Files at each limit and one past it, with divisors, picks and ranks that can and can't be such,
-//! and with starts that can and can't happen, with how they must be read.
+//! Files at each limit and one past it, with divisors and picks that can and can't be such, and with
+//! starts that can and can't happen, with how they must be read.
 
 use crate::generate::{
     constant, join, plain, record, truth_of_size, value, Code, Draft, Edge, Pick, Random, Record,
-    Transition, CHAIN, CHAINS, INVARIANCE, RANKED, RECORDS, WAIT_FOR,
+    Transition, CHAIN, INVARIANCE, RECORDS, WAIT_FOR,
 };
-
-const PROPERTIES: [u8; 4] = [INVARIANCE, WAIT_FOR, CHAIN, RANKED];
 
 pub struct Limit {
     pub name: String,
@@ -34,9 +32,6 @@ pub fn cases() -> Vec<Limit> {
     picks_elsewhere(&mut list);
     combinations(&mut list);
     combinations_and_others(&mut list);
-    ranks(&mut list);
-    ranks_at_limits(&mut list);
-    ranked_edges(&mut list);
     list.0
 }
 
@@ -85,10 +80,6 @@ fn draft(property: u8, nodes: usize) -> Draft {
         },
         truths: vec![always(); truths],
         nodes: vec![always(); nodes],
-        ranks: match property {
-            RANKED => vec![value(0); nodes],
-            _ => Vec::new(),
-        },
         edges: Vec::new(),
     }
 }
@@ -129,7 +120,7 @@ fn variables(list: &mut List) {
 
 /// C1.8, C10.5, C11.3.
 fn transitions(list: &mut List) {
-    for property in PROPERTIES {
+    for property in [INVARIANCE, WAIT_FOR, CHAIN] {
         let transitions = |count| {
             let mut draft = draft(property, 1);
             draft.transitions = vec![idle(); count];
@@ -153,22 +144,18 @@ fn nodes(list: &mut List) {
         draft.edges = double_edges(count);
         draft.records()
     };
-    let ranked = |count| ranked(count).records();
-    // Of a node's two records, or three.
-    for (name, file, first, length) in [
+    for (name, file, first) in [
         (
             "invariance",
             &invariance as &dyn Fn(usize) -> Vec<Record>,
             5,
-            2,
         ),
-        ("chain", &chain, 8, 2),
-        ("ranked chain", &ranked, 8, 3),
+        ("chain", &chain, 8),
     ] {
         let name = |text| format!("{text}, {name}");
         list.readable(&name("1 node"), file(1));
         list.readable(&name("32 nodes"), file(32));
-        let place = first + length * 32;
+        let place = first + 2 * 32;
         list.refused(&name("33 nodes"), file(33), 5, place);
         let bad = with_field(file(33), place);
         list.refused(&name("field of node 33"), bad, 4, place);
@@ -656,7 +643,7 @@ fn started(property: u8, start: &Code) -> Draft {
     draft.ranges = vec![(0, 3), (-2, 2)];
     draft.start = start.clone();
     draft.transitions = vec![idle()];
-    if CHAINS.contains(&property) {
+    if property == CHAIN {
         draft.edges = double_edges(2);
     }
     draft
@@ -679,7 +666,7 @@ fn starts(list: &mut List) {
     let here = |v_is, w_is| both(&equal(&v, &value(v_is)), &equal(&w, &value(w_is)));
     let twice = |number: &Code| join(0x14, &[&value(2), number]);
     let odd = join(0x12, &[&twice(&w), &value(1)]);
-    for property in PROPERTIES {
+    for property in [INVARIANCE, WAIT_FOR, CHAIN] {
         let name = |text: &str| format!("{text}, property {property}");
         for (text, start) in [
             ("start false", never()),
@@ -718,9 +705,8 @@ fn starts(list: &mut List) {
 fn with_interval(mut draft: Draft) -> (Draft, usize) {
     let out = join(0x14, &[&vec![constant(1001)], &vec![constant(1000)]]);
     draft.nodes[1] = join(0x28, &[&out, &value(0)]);
-    // Behind the product stand three numbers, the rank and the edge of a chain.
-    let rank = draft.ranks.last().map_or(0, Vec::len);
-    let place = draft.records().len() - 4 - rank - draft.edges.len();
+    // Behind the product stand three numbers, and the edge of a chain.
+    let place = draft.records().len() - 4 - draft.edges.len();
     (draft, place)
 }
 
@@ -738,7 +724,7 @@ fn with_edge(mut draft: Draft) -> (Draft, usize) {
 
 /// C11.1: 20 with 7 to 10, and with conditions that are broken.
 fn starts_and_others(list: &mut List) {
-    for property in PROPERTIES {
+    for property in [INVARIANCE, WAIT_FOR, CHAIN] {
         let name = |text: &str| format!("start false and {text}, property {property}");
         let bad = || started(property, &never());
         let mut states = bad();
@@ -758,15 +744,9 @@ fn starts_and_others(list: &mut List) {
         broken.nodes = vec![never(); 2];
         list.refused(&name("no node"), broken.records(), 20, 0);
     }
-    for property in CHAINS {
-        let mut chain = started(property, &never());
-        chain.edges.clear();
-        let name = format!("start false and no double edge, property {property}");
-        list.refused(&name, chain.records(), 10, 1);
-    }
-    let mut ranked = started(RANKED, &never());
-    ranked.ranks[1] = value(-1);
-    list.refused("start false and a broken rank", ranked.records(), 20, 0);
+    let mut chain = started(CHAIN, &never());
+    chain.edges.clear();
+    list.refused("start false and no double edge", chain.records(), 10, 1);
 }
 
 /// Variables in 0..3 and -2..2 and a transition that sets them so. Its records: 0 and 1 variables,
@@ -929,7 +909,7 @@ fn picking(property: u8, sizes: &[i16], picks: &[(u8, i16)]) -> (Draft, usize) {
         })
         .collect();
     draft.transitions = vec![idle(), transition];
-    if CHAINS.contains(&property) {
+    if property == CHAIN {
         draft.edges = double_edges(2);
     }
     (draft, sizes.len() + 4)
@@ -995,7 +975,7 @@ fn combinations(list: &mut List) {
 
 /// C11.1: 22 with 7 before it, and with 8, 9, 10, 20 and broken conditions behind it.
 fn combinations_and_others(list: &mut List) {
-    for property in PROPERTIES {
+    for property in [INVARIANCE, WAIT_FOR, CHAIN] {
         for values in [64, 65] {
             let many = values == 65;
             let name = |text: &str| format!("{values} × 64 picks and {text}, property {property}");
@@ -1015,7 +995,7 @@ fn combinations_and_others(list: &mut List) {
             let mut no_node = new().0;
             no_node.nodes = vec![never(); 2];
             add("no node", no_node, None);
-            if CHAINS.contains(&property) {
+            if property == CHAIN {
                 let mut no_double = new().0;
                 no_double.edges.clear();
                 add("no double edge", no_double, Some((10, 1)));
@@ -1024,192 +1004,5 @@ fn combinations_and_others(list: &mut List) {
         let (draft, _) = picking(property, &[1024, 1025], &[(0, 1024), (1, 5)]);
         let name = format!("5,120 combinations and too many states, property {property}");
         list.refused(&name, draft.records(), 7, 1);
-    }
-}
-
-/// A ranked chain in which everything is true and every rank is 0, with a double edge to node 0 from
-/// each other. Its records: 0 variable, 1 start, 2 true, 3 transition, 4 guard, 5 property, 6 p, 7 q,
-/// then three for each node.
-fn ranked(nodes: usize) -> Draft {
-    let mut draft = draft(RANKED, nodes);
-    draft.transitions = vec![idle()];
-    draft.edges = double_edges(nodes);
-    draft
-}
-
-/// C1.18, C10.3, C10.4, C1.10.
-fn ranks(list: &mut List) {
-    list.readable("two ranks", ranked(2).records());
-    for node in 0..2 {
-        let with = |rank: Code| {
-            let mut draft = ranked(2);
-            draft.ranks[node] = rank;
-            draft.records()
-        };
-        // The rank's first record.
-        let at = 10 + 3 * node;
-        let name = |text: &str| format!("{text}, node {node}");
-        let variable = variable(0);
-        list.readable(&name("a variable for a rank"), with(variable.clone()));
-        list.readable(&name("a rank below 0"), with(value(-1)));
-        list.refused(&name("no rank"), with(Vec::new()), 3, at);
-        list.refused(&name("a truth for a rank"), with(always()), 3, at);
-        list.refused(&name("no kind for a rank"), with(vec![plain(0x1a)]), 3, at);
-        let two = [value(0), value(0)].concat();
-        list.refused(&name("two ranks of a node"), with(two), 3, at + 1);
-        let half = [vec![plain(0x13)], variable].concat();
-        list.refused(&name("half a rank"), with(half), 3, at + 2);
-        let mut cut = with(value(0));
-        cut.truncate(at);
-        list.refused(&name("the end for a rank"), cut, 3, at);
-        list.refused(
-            &name("field of a rank"),
-            with_field(with(value(0)), at),
-            4,
-            at,
-        );
-        let unknown = with(vec![record(0x11, 1, 0, 0, 0)]);
-        list.refused(&name("unknown variable in a rank"), unknown, 4, at);
-    }
-    for (property, first) in [(INVARIANCE, 5), (WAIT_FOR, 7), (CHAIN, 6)] {
-        let mut draft = draft(property, 2);
-        draft.ranks = vec![value(0), Vec::new()];
-        let name = format!("a rank, property {property}");
-        list.refused(&name, draft.records(), 3, first + 2);
-        draft.ranks.swap(0, 1);
-        let name = format!("a rank of the second node, property {property}");
-        list.refused(&name, draft.records(), 3, first + 4);
-    }
-    for b in [-32_768, -1, 1, 2, 32, 256] {
-        let mut draft = ranked(2);
-        draft.b = b;
-        list.refused(&format!("ranked chain with b {b}"), draft.records(), 4, 5);
-    }
-    for property in [0, 5, 6, 0x44, 0x84, 255] {
-        let mut draft = ranked(2);
-        draft.property = property;
-        let name = format!("property {property}");
-        list.refused(&name, draft.records(), 4, 5);
-    }
-    // As a chain, node 0 has a number behind its assertion; as a ranked one without ranks, none.
-    let mut chain = ranked(2);
-    chain.property = CHAIN;
-    list.refused("a chain with ranks", chain.records(), 3, 10);
-    let bare = Draft {
-        ranks: Vec::new(),
-        ..ranked(2)
-    };
-    list.refused("a ranked chain without ranks", bare.records(), 3, 10);
-}
-
-/// C2.12, C3.4, C3.5, C10.5, C10.8, C10.19: levels, intervals and divisors of ranks.
-fn ranks_at_limits(list: &mut List) {
-    let big = |factor| join(0x14, &[&vec![constant(1000)], &vec![constant(factor)]]);
-    let out = |factor| join(0x28, &[&value(0), &big(factor)]);
-    for node in 0..2 {
-        let with = |rank: Code| {
-            let mut draft = ranked(2);
-            draft.ranks[node] = rank;
-            draft
-        };
-        let at = 10 + 3 * node;
-        let name = |text: &str| format!("{text}, node {node}");
-        for left in [true, false] {
-            let number = |levels| with(nested_number(levels, left)).records();
-            let deep = at + if left { 16 } else { 31 };
-            let name = |text: &str| name(&format!("{text}, left {left}"));
-            list.readable(&name("rank of 16 levels"), number(16));
-            list.refused(&name("rank of 17 levels"), number(17), 5, deep);
-        }
-        for factor in [1000, -1000] {
-            let name = name(&format!("rank of 1000 × {factor}"));
-            list.readable(&name, with(big(factor)).records());
-        }
-        for factor in [1001, -1001] {
-            let name = |text: &str| name(&format!("rank of 1000 × {factor}{text}"));
-            let bad = || with(big(factor));
-            list.refused(&name(""), bad().records(), 8, at);
-            let (edge, _) = with_edge(bad());
-            list.refused(&name(" and an edge"), edge.records(), 8, at);
-            let mut no_double = bad();
-            no_double.edges.clear();
-            list.refused(&name(" and no double edge"), no_double.records(), 8, at);
-            let mut no_start = bad();
-            no_start.start = never();
-            list.refused(&name(" and no start"), no_start.records(), 8, at);
-            // Of the node's own assertion the product comes first, of the next node's not.
-            let mut both = bad();
-            both.nodes[node] = out(factor);
-            list.refused(&name(" behind another"), both.records(), 8, at + 1);
-            let mut both = bad();
-            both.nodes[1] = out(factor);
-            let place = if node == 0 { at } else { at + 1 };
-            list.refused(&name(" and in node 1"), both.records(), 8, place);
-        }
-        for kind in [0x18, 0x19] {
-            let by = |divisor: Code| with(join(kind, &[&variable(0), &divisor])).records();
-            let name = |text: &str| name(&format!("rank of kind {kind:x}{text}"));
-            list.readable(&name(" by 2"), by(value(2)));
-            list.refused(&name(" by 0"), by(value(0)), 19, at + 2);
-            list.refused(&name(" by a variable"), by(variable(0)), 19, at + 2);
-        }
-    }
-}
-
-/// C9.2, C9.6 to C9.10, C10.9, C10.10: edges beside a double one of transition 0 from nodes 1 and 2
-/// to node 0. Transitions 0 and 1 are just, 2 is not.
-fn ranked_edges(list: &mut List) {
-    for (property, length) in [(RANKED, 3), (CHAIN, 2)] {
-        let with = |edges: &[(usize, usize, usize, bool)]| {
-            let mut draft = draft(property, 3);
-            let mut unjust = idle();
-            unjust.just = false;
-            draft.transitions = vec![idle(), idle(), unjust];
-            draft.edges = double_edges(3);
-            draft.edges.extend(edges.iter().map(|&edge| {
-                let (transition, from, to, double) = edge;
-                Edge {
-                    transition,
-                    from,
-                    to,
-                    double,
-                }
-            }));
-            draft
-        };
-        // Behind a variable, start, three transitions, property, p and q, three nodes, two edges.
-        let place = 1 + 2 + 6 + 3 + 3 * length + 2;
-        let name = |text: String| format!("{text}, property {property}");
-        let free = property == RANKED;
-        for (edge, obeys) in [
-            ((1, 0, 0, false), false),
-            ((1, 0, 2, false), false),
-            ((0, 0, 1, true), false),
-            ((1, 1, 2, false), free),
-            ((2, 1, 2, false), free),
-            ((2, 1, 1, false), true),
-            ((2, 2, 1, false), true),
-            ((0, 1, 2, true), free),
-            ((0, 1, 1, true), free),
-            ((0, 2, 2, true), free),
-            ((0, 2, 1, true), true),
-            ((0, 1, 1, false), false),
-            ((0, 1, 2, false), false),
-            ((1, 1, 1, true), false),
-            ((1, 2, 0, true), false),
-            ((2, 2, 2, true), false),
-        ] {
-            let name = name(format!("edge {edge:?}"));
-            match obeys {
-                true => list.readable(&name, with(&[edge]).records()),
-                false => list.refused(&name, with(&[edge]).records(), 9, place),
-            }
-        }
-        for node in 1..3 {
-            let mut lacking = with(&[(1, node, 0, false)]);
-            lacking.edges.remove(node - 1);
-            let name = name(format!("node {node} without a double edge"));
-            list.refused(&name, lacking.records(), 10, node);
-        }
     }
 }

@@ -211,7 +211,7 @@ fn asked(random: &mut Random, file: Vec<u8>, sure: Option<usize>) -> Asked {
     let check = case.checked(independent::check);
     // One of the single tests is of the broken condition, if there is one.
     match &check {
-        Some((verdict, _)) if matches!(verdict.number, 13..=18 | 21) => {
+        Some((verdict, _)) if (13..=18).contains(&verdict.number) => {
             case.singles[0].0 = verdict.at as usize
         }
         _ => (),

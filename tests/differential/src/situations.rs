@@ -2,7 +2,6 @@
 //! file and from how it is read. And what makes its verdict special: the tests, the breaking state.
 
 pub mod picks;
-pub mod ranks;
 
 use crate::compare::{Case, Facts};
 use crate::generate::{
@@ -21,7 +20,7 @@ const FEW: usize = 10_000;
 
 /// The situations that must come up. A number in front is the refusal; files with a limit reached
 /// are readable.
-pub const SITUATIONS: [&str; 123] = [
+pub const SITUATIONS: [&str; 121] = [
     "12 variables",
     "5: variable 13",
     "4: field of variable 13",
@@ -132,7 +131,6 @@ pub const SITUATIONS: [&str; 123] = [
     "20: and a broken condition of an invariance",
     "20: and a broken condition of a wait-for",
     "20: and a broken condition of a chain",
-    "20: and a broken condition of a ranked chain",
     "3: and no start",
     "4: and no start",
     "5: and no start",
@@ -142,7 +140,6 @@ pub const SITUATIONS: [&str; 123] = [
     "9: and no start, in an invariance",
     "9: and no start, in a wait-for",
     "9: and no start, in a chain",
-    "9: and no start, in a ranked chain",
     "10: and no start",
     "19: and no start",
 ];
@@ -318,13 +315,12 @@ impl<'a> Divisions<'a> {
                 self.of_truth(p);
                 q.iter().for_each(|q| self.of_truth(q));
             }
-            Claim::Chain { p, q } | Claim::RankedChain { p, q } => {
+            Claim::Chain { p, q } => {
                 self.of_truth(p);
                 self.of_truth(q);
             }
         }
         file.nodes.iter().for_each(|node| self.of_truth(node));
-        file.ranks.iter().for_each(|rank| self.of_number(rank));
     }
 
     fn of_truth(&mut self, truth: &'a Truth) {
@@ -459,7 +455,6 @@ fn no_start(records: &[Record], facts: &Facts) -> Vec<&'static str> {
         ("20: and a broken condition of an invariance", broken(1)),
         ("20: and a broken condition of a wait-for", broken(2)),
         ("20: and a broken condition of a chain", broken(3)),
-        ("20: and a broken condition of a ranked chain", broken(4)),
     ])
 }
 
@@ -475,7 +470,7 @@ fn breaks(records: &[Record], facts: &Facts) -> bool {
     };
     let file = with_start(records, &start).concat();
     let number = || independent::check(&file, &mut [0; 32]).number;
-    facts.conditions.len() * facts.states <= LITTLE && matches!(number(), 13..=18 | 21)
+    facts.conditions.len() * facts.states <= LITTLE && (13..=18).contains(&number())
 }
 
 /// Whether no state satisfies the start of a file that is refused with another number than 20. Of
@@ -495,7 +490,7 @@ fn and_no_start(records: &[Record], refusal: &Refusal) -> Vec<&'static str> {
             _ => refused == Err(20),
         }
     });
-    let [invariance, wait_for, chain, ranked] = [1, 2, 3, 4].map(|a| property(records) == Some(a));
+    let [invariance, wait_for, chain] = [1, 2, 3].map(|a| property(records) == Some(a));
     let number = |of| none && refusal.number == of;
     told(&[
         ("3: and no start", number(3)),
@@ -507,7 +502,6 @@ fn and_no_start(records: &[Record], refusal: &Refusal) -> Vec<&'static str> {
         ("9: and no start, in an invariance", number(9) && invariance),
         ("9: and no start, in a wait-for", number(9) && wait_for),
         ("9: and no start, in a chain", number(9) && chain),
-        ("9: and no start, in a ranked chain", number(9) && ranked),
         ("10: and no start", number(10)),
         ("19: and no start", number(19)),
     ])
@@ -765,7 +759,7 @@ fn refused(length: usize, records: &[Record], refusal: &Refusal) -> Vec<&'static
         8 => {
             let (low, high) = intervals(records)[place].unwrap_or((0, 0));
             // The rules that one edge breaks by itself.
-            let chain = matches!(property(records), Some(3 | 4));
+            let chain = property(records) == Some(3);
             let invariance = property(records) == Some(1);
             let breaks = |one: &Record| {
                 let double = one[6] == 1;
@@ -790,7 +784,7 @@ fn refused(length: usize, records: &[Record], refusal: &Refusal) -> Vec<&'static
             let lacks = !(1..nodes).all(has_double);
             told(&[(
                 "9: and a node without a double edge",
-                matches!(property(records), Some(3 | 4)) && lacks,
+                property(records) == Some(3) && lacks,
             )])
         }
         19 => refused_divisor(records, place),

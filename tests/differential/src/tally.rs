@@ -3,7 +3,6 @@
 use crate::compare::{Answers, Case, Facts};
 use crate::generate;
 use crate::situations::picks::{self, PICKED, PICKS, SINGLES};
-use crate::situations::ranks::{self, RANKED, RANKED_SINGLES, RANKS};
 use crate::situations::{self, BREAKING, SITUATIONS, STARTLESS, UNNAMED};
 use independent::Tested;
 use std::collections::HashSet;
@@ -15,18 +14,17 @@ const OFTEN: u64 = 100;
 /// Every situation must.
 const SELDOM: u64 = 10;
 
-/// The verdicts' numbers are 0 to 22.
+/// The verdicts' numbers are 0 to 20 and 22.
 const NUMBERS: usize = 23;
-const PROPERTIES: [&str; 5] = ["none", "invariance", "wait-for", "chain", "ranked chain"];
+const PROPERTIES: [&str; 4] = ["none", "invariance", "wait-for", "chain"];
 /// The numbers of broken conditions, with the properties that have such conditions.
-const CONDITIONS: [(usize, &str, &[usize]); 7] = [
+const CONDITIONS: [(usize, &str, &[usize]); 6] = [
     (13, "start", &[1]),
-    (14, "entry", &[2, 3, 4]),
-    (15, "cover", &[1, 2, 3, 4]),
-    (21, "rank", &[4]),
-    (16, "range", &[1, 2, 3, 4]),
-    (17, "step", &[1, 2, 3, 4]),
-    (18, "enabling", &[3, 4]),
+    (14, "entry", &[2, 3]),
+    (15, "cover", &[1, 2, 3]),
+    (16, "range", &[1, 2, 3]),
+    (17, "step", &[1, 2, 3]),
+    (18, "enabling", &[3]),
 ];
 /// Numbers given to a single test.
 const EDGES: [&str; 5] = ["0", "the last", "one past", "the greatest usize", "2^32 up"];
@@ -34,7 +32,7 @@ const EDGES: [&str; 5] = ["0", "the last", "one past", "the greatest usize", "2^
 pub struct Tally {
     /// Checks by number and property; 0 for the property of an unreadable file, but for number 20,
     /// and for number 1.
-    checks: [[u64; 5]; NUMBERS],
+    checks: [[u64; 4]; NUMBERS],
     /// The places of refusals by number.
     places: Vec<HashSet<u32>>,
     /// Checks by the buffer's length.
@@ -42,7 +40,7 @@ pub struct Tally {
     /// Single tests that are refused, by number.
     refused: [u64; NUMBERS],
     /// Single tests that fail and that hold, by number and property of the condition.
-    tested: [[[u64; 5]; NUMBERS]; 2],
+    tested: [[[u64; 4]; NUMBERS]; 2],
     /// Conditions and states of single tests of readable files.
     edges: [[u64; 5]; 2],
     situations: [u64; SITUATIONS.len()],
@@ -50,17 +48,11 @@ pub struct Tally {
     /// By the number of the broken condition.
     breaking: [[u64; BREAKING.len()]; NUMBERS],
     /// Single tests refused with 20, by property.
-    startless: [[u64; STARTLESS.len()]; 5],
+    startless: [[u64; STARTLESS.len()]; 4],
     picks: [u64; PICKS.len()],
     /// Verdicts about files with picks, by property.
-    picked: [[u64; PICKED.len()]; 5],
+    picked: [[u64; PICKED.len()]; 4],
     singles: [u64; SINGLES.len()],
-    /// Ranked chains, and files that ranks are refused in.
-    ranks: [u64; RANKS.len()],
-    /// Verdicts about ranked chains.
-    ranked: [u64; RANKED.len()],
-    /// Single tests of ranked chains.
-    ranked_singles: [u64; RANKED_SINGLES.len()],
     /// Readable files that have too many tests for the whole check.
     singles_only: u64,
 }
@@ -68,22 +60,19 @@ pub struct Tally {
 impl Default for Tally {
     fn default() -> Tally {
         Tally {
-            checks: [[0; 5]; NUMBERS],
+            checks: [[0; 4]; NUMBERS],
             places: vec![HashSet::new(); NUMBERS],
             rooms: [0; 65],
             refused: [0; NUMBERS],
-            tested: [[[0; 5]; NUMBERS]; 2],
+            tested: [[[0; 4]; NUMBERS]; 2],
             edges: [[0; 5]; 2],
             situations: [0; SITUATIONS.len()],
             unnamed: [0; UNNAMED.len()],
             breaking: [[0; BREAKING.len()]; NUMBERS],
-            startless: [[0; STARTLESS.len()]; 5],
+            startless: [[0; STARTLESS.len()]; 4],
             picks: [0; PICKS.len()],
-            picked: [[0; PICKED.len()]; 5],
+            picked: [[0; PICKED.len()]; 4],
             singles: [0; SINGLES.len()],
-            ranks: [0; RANKS.len()],
-            ranked: [0; RANKED.len()],
-            ranked_singles: [0; RANKED_SINGLES.len()],
             singles_only: 0,
         }
     }
@@ -131,7 +120,6 @@ impl Tally {
         let found = situations::of(&case.file, facts);
         add(&mut self.situations, &SITUATIONS, found);
         self.count_picks(case, facts, answers);
-        self.count_ranks(case, facts, answers);
     }
 
     fn count_picks(&mut self, case: &Case, facts: &Facts, answers: &Answers) {
@@ -150,21 +138,6 @@ impl Tally {
         add(&mut self.singles, &SINGLES, found);
     }
 
-    fn count_ranks(&mut self, case: &Case, facts: &Facts, answers: &Answers) {
-        let found = ranks::of(&generate::records(&case.file), facts);
-        add(&mut self.ranks, &RANKS, found);
-        let file = match &facts.reading {
-            Ok(file) if !file.ranks.is_empty() => file,
-            _ => return,
-        };
-        if let Some((verdict, _)) = &answers.check {
-            let found = ranks::checked(file, facts, verdict);
-            add(&mut self.ranked, &RANKED, found);
-        }
-        let found = ranks::tested(case, file, facts, &answers.singles);
-        add(&mut self.ranked_singles, &RANKED_SINGLES, found);
-    }
-
     /// What must have come up so often.
     pub fn tests(&self, files: u64) -> Vec<(String, bool)> {
         let [often, seldom] = [OFTEN, SELDOM].map(|least| least * files / FILES);
@@ -173,7 +146,7 @@ impl Tally {
             let name = format!("{name}: {count}, at least {least}");
             tests.push((name, count >= least));
         };
-        for number in (0..=10).chain(13..=22) {
+        for number in (0..=10).chain(13..=20).chain([22]) {
             let count = self.checks[number].iter().sum();
             least(format!("checks of number {number}"), count, often);
         }
@@ -237,28 +210,17 @@ impl Tally {
         for (&count, name) in self.singles.iter().zip(SINGLES) {
             least(format!("single tests of {name}"), count, seldom);
         }
-        for (&count, name) in self.ranks.iter().zip(RANKS) {
-            least(name.to_string(), count, seldom);
-        }
-        for (&count, name) in self.ranked.iter().zip(RANKED) {
-            least(format!("ranked chain: {name}"), count, seldom);
-        }
-        for (&count, name) in self.ranked_singles.iter().zip(RANKED_SINGLES) {
-            let name = format!("ranked chain: single tests of {name}");
-            least(name, count, seldom);
-        }
         least("single tests only".to_string(), self.singles_only, often);
         tests
     }
 
     pub fn print(&self) {
-        println!("number    none  invariance  wait-for   chain  ranked   places");
+        println!("number    none  invariance  wait-for   chain   places");
         for (number, counts) in self.checks.iter().enumerate() {
-            let [none, invariance, wait_for, chain, ranked] = counts;
+            let [none, invariance, wait_for, chain] = counts;
             let places = self.places[number].len();
             if counts.iter().sum::<u64>() > 0 {
-                print!("{number:6} {none:7} {invariance:11} {wait_for:9} {chain:7}");
-                println!(" {ranked:7} {places:8}");
+                println!("{number:6} {none:7} {invariance:11} {wait_for:9} {chain:7} {places:8}");
             }
         }
         println!(
@@ -272,18 +234,19 @@ impl Tally {
             }
         }
         for (counts, what) in self.tested.iter().zip(["fail", "hold"]) {
-            println!("that {what}         invariance  wait-for   chain  ranked");
+            println!("that {what}         invariance  wait-for   chain");
             for (number, _, _) in CONDITIONS {
-                let [_, invariance, wait_for, chain, ranked] = counts[number];
-                println!("{number:6} {invariance:19} {wait_for:9} {chain:7} {ranked:7}");
+                let [_, invariance, wait_for, chain] = counts[number];
+                println!("{number:6} {invariance:19} {wait_for:9} {chain:7}");
             }
         }
         for (count, name) in self.unnamed.iter().zip(UNNAMED) {
             println!("{count:6} {name}");
         }
-        println!("no start            invariance  wait-for   chain  ranked  single tests");
+        println!("no start            invariance  wait-for   chain  single tests");
         for (at, what) in STARTLESS.iter().enumerate() {
-            by_property(self.startless.map(|counts| counts[at]), what);
+            let [_, invariance, wait_for, chain] = self.startless.map(|counts| counts[at]);
+            println!("{invariance:30} {wait_for:9} {chain:7}  {what}");
         }
         let names = CONDITIONS.map(|(_, name, _)| format!("{name:>9}"));
         println!("{} broken", names.concat());
@@ -302,32 +265,16 @@ impl Tally {
         for (count, name) in self.picks.iter().zip(PICKS) {
             println!("{count:6} {name}");
         }
-        println!("with picks          invariance  wait-for   chain  ranked");
+        println!("with picks          invariance  wait-for   chain");
         for (at, (name, _)) in PICKED.iter().enumerate() {
-            by_property(self.picked.map(|counts| counts[at]), name);
+            let [_, invariance, wait_for, chain] = self.picked.map(|counts| counts[at]);
+            println!("{invariance:30} {wait_for:9} {chain:7}  {name}");
         }
         println!("single tests with picks");
         for (count, name) in self.singles.iter().zip(SINGLES) {
             println!("{count:6} of {name}");
         }
-        println!("ranks");
-        for (count, name) in self.ranks.iter().zip(RANKS) {
-            println!("{count:6} {name}");
-        }
-        println!("ranked chains");
-        for (count, name) in self.ranked.iter().zip(RANKED) {
-            println!("{count:6} {name}");
-        }
-        println!("single tests of ranked chains");
-        for (count, name) in self.ranked_singles.iter().zip(RANKED_SINGLES) {
-            println!("{count:6} of {name}");
-        }
     }
-}
-
-fn by_property(counts: [u64; 5], what: &str) {
-    let [_, invariance, wait_for, chain, ranked] = counts;
-    println!("{invariance:30} {wait_for:9} {chain:7} {ranked:7}  {what}");
 }
 
 /// Counts what was found, by its place in the list.

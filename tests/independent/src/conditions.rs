@@ -1,8 +1,7 @@
 //! The conditions, their order and what each demands of a state (C8).
 
-use crate::evaluate::{assigned, enabled, number, successors, truth};
-use crate::file::{Claim, File, Number, Transition, Truth, Variable};
-use crate::ranks::RankedStep;
+use crate::evaluate::{assigned, enabled, successors, truth};
+use crate::file::{Claim, File, Transition, Truth, Variable};
 use crate::states::State;
 
 /// A condition by its kind, with the node and the transition it is about.
@@ -11,20 +10,18 @@ pub enum Condition {
     Start,
     Entry,
     Cover { node: usize },
-    Rank { node: usize },
     Range { node: usize, transition: usize },
     Step { node: usize, transition: usize },
     Enabling { node: usize, transition: usize },
 }
 
 impl Condition {
-    /// The number where it is broken: C10.13, C10.14, C10.15, C10.16, C10.17, C10.18, C10.21.
+    /// The number where it is broken: C10.13, C10.14, C10.15, C10.16, C10.17, C10.18.
     pub fn number(&self) -> u8 {
         match self {
             Condition::Start => 13,
             Condition::Entry => 14,
             Condition::Cover { .. } => 15,
-            Condition::Rank { .. } => 21,
             Condition::Range { .. } => 16,
             Condition::Step { .. } => 17,
             Condition::Enabling { .. } => 18,
@@ -36,18 +33,16 @@ impl Condition {
         match *self {
             Condition::Start | Condition::Entry => None,
             Condition::Cover { node } => Some(node),
-            Condition::Rank { node } => Some(node),
             Condition::Range { node, .. } => Some(node),
             Condition::Step { node, .. } => Some(node),
             Condition::Enabling { node, .. } => Some(node),
         }
     }
 
-    /// C12.3: nor has a cover or a rank a transition.
+    /// C12.3: nor has a cover a transition.
     pub fn transition(&self) -> Option<usize> {
         match *self {
             Condition::Start | Condition::Entry | Condition::Cover { .. } => None,
-            Condition::Rank { .. } => None,
             Condition::Range { transition, .. } => Some(transition),
             Condition::Step { transition, .. } => Some(transition),
             Condition::Enabling { transition, .. } => Some(transition),
@@ -56,12 +51,10 @@ impl Condition {
 }
 
 impl File {
-    /// C8.3, C8.4, C8.5, C8.6, C8.16: the conditions, as they are numbered. C8.2: node 0 may be a
-    /// goal.
+    /// C8.3, C8.4, C8.5, C8.6: the conditions, as they are numbered. C8.2: node 0 may be a goal.
     pub fn conditions(&self) -> Vec<Condition> {
         let invariance = matches!(self.claim, Claim::Invariance { .. });
-        let ranked = matches!(self.claim, Claim::RankedChain { .. });
-        let chain = ranked || matches!(self.claim, Claim::Chain { .. });
+        let chain = matches!(self.claim, Claim::Chain { .. });
         let opening = if invariance {
             Condition::Start
         } else {
@@ -72,16 +65,13 @@ impl File {
 
         let mut list = vec![opening];
         list.extend((0..covered).map(|node| Condition::Cover { node }));
-        if ranked {
-            list.extend((1..self.nodes.len()).map(|node| Condition::Rank { node }));
-        }
         for node in first..self.nodes.len() {
             self.conditions_of_node(node, &mut list);
         }
         list
     }
 
-    /// C8.6, C8.16: by transition, range, step, and enabling behind the double transition's step.
+    /// C8.6: by transition, range, step, and enabling behind the step of the double transition.
     fn conditions_of_node(&self, node: usize, list: &mut Vec<Condition>) {
         let double = self.double_transition(node);
         for transition in 0..self.transitions.len() {
@@ -98,7 +88,6 @@ impl File {
         match &self.claim {
             Claim::Invariance { .. } => &self.start,
             Claim::WaitFor { p, .. } | Claim::Chain { p, .. } => p,
-            Claim::RankedChain { p, .. } => p,
         }
     }
 
@@ -106,7 +95,6 @@ impl File {
     fn phase(&self, node: usize) -> &Truth {
         match &self.claim {
             Claim::Invariance { q } | Claim::Chain { q, .. } => q,
-            Claim::RankedChain { q, .. } => q,
             Claim::WaitFor { q, .. } => &q[node],
         }
     }
@@ -131,8 +119,6 @@ pub enum Obligation<'a> {
         premise: &'a Truth,
         any: Vec<&'a Truth>,
     },
-    /// C8.17: the node implies a rank of at least 0.
-    Rank { node: &'a Truth, rank: &'a Number },
     /// C8.10: node and guard imply all assigned values in range.
     Range {
         node: &'a Truth,
@@ -144,8 +130,6 @@ pub enum Obligation<'a> {
         transition: &'a Transition,
         any: Vec<&'a Truth>,
     },
-    /// C8.18: the same of a ranked chain.
-    RankedStep(RankedStep<'a>),
     /// C8.13: the node implies the transition enabled.
     Enabling {
         node: &'a Truth,
@@ -164,21 +148,10 @@ impl<'a> Obligation<'a> {
                 premise: &file.nodes[node],
                 any: vec![file.phase(node)],
             },
-            Condition::Rank { node } => Obligation::Rank {
-                node: &file.nodes[node],
-                rank: &file.ranks[node],
-            },
             Condition::Range { node, transition } => Obligation::Range {
                 node: &file.nodes[node],
                 transition: &file.transitions[transition],
             },
-            Condition::Step { node, transition } if !file.ranks.is_empty() => {
-                Obligation::RankedStep(RankedStep {
-                    file,
-                    node,
-                    transition,
-                })
-            }
             Condition::Step { node, transition } => Obligation::Step {
                 node: &file.nodes[node],
                 transition: &file.transitions[transition],
@@ -197,7 +170,6 @@ impl<'a> Obligation<'a> {
             Obligation::Implication { premise, any } => {
                 !truth(premise, state) || satisfies_one(any, state)
             }
-            Obligation::Rank { node, rank } => !truth(node, state) || number(rank, state) >= 0,
             Obligation::Range { node, transition } => {
                 let due = truth(node, state) && truth(&transition.guard, state);
                 !due || assigned(transition, ranges, state).is_some()
@@ -210,7 +182,6 @@ impl<'a> Obligation<'a> {
                 let arrives = |next: &State| satisfies_one(any, next);
                 !truth(node, state) || successors(transition, ranges, state).iter().all(arrives)
             }
-            Obligation::RankedStep(step) => step.holds(state),
             Obligation::Enabling { node, transition } => {
                 !truth(node, state) || enabled(transition, ranges, state)
             }

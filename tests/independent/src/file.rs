@@ -91,7 +91,6 @@ pub enum Claim {
     Invariance { q: Truth },
     WaitFor { p: Truth, q: Vec<Truth> },
     Chain { p: Truth, q: Truth },
-    RankedChain { p: Truth, q: Truth },
 }
 
 /// C1.14: an edge, and the number of its record.
@@ -104,8 +103,7 @@ pub struct Edge {
     pub double: bool,
 }
 
-/// C1.5: a file, its parts in file order; the nodes are their assertions. C1.18: in a ranked chain
-/// there is a rank for each, otherwise none.
+/// C1.5: a file, its parts in file order; the nodes are their assertions.
 #[derive(Clone, Debug, PartialEq, Eq)]
 pub struct File {
     pub variables: Vec<Variable>,
@@ -113,7 +111,6 @@ pub struct File {
     pub transitions: Vec<Transition>,
     pub claim: Claim,
     pub nodes: Vec<Truth>,
-    pub ranks: Vec<Number>,
     pub edges: Vec<Edge>,
 }
 

@@ -22,7 +22,7 @@ pub fn check_expressions(file: &File) -> Result<(), Refusal> {
         }
     }
     check_claim(&file.claim, ranges)?;
-    check_nodes(file, ranges)
+    check_truths(&file.nodes, ranges)
 }
 
 fn check_claim(claim: &Claim, ranges: &[Variable]) -> Result<(), Refusal> {
@@ -32,22 +32,11 @@ fn check_claim(claim: &Claim, ranges: &[Variable]) -> Result<(), Refusal> {
             check_truth(p, ranges)?;
             check_truths(q, ranges)
         }
-        Claim::Chain { p, q } | Claim::RankedChain { p, q } => {
+        Claim::Chain { p, q } => {
             check_truth(p, ranges)?;
             check_truth(q, ranges)
         }
     }
-}
-
-/// C1.18: a rank stands behind the assertion of its node.
-fn check_nodes(file: &File, ranges: &[Variable]) -> Result<(), Refusal> {
-    for (number, node) in file.nodes.iter().enumerate() {
-        check_truth(node, ranges)?;
-        if let Some(rank) = file.ranks.get(number) {
-            interval(rank, ranges)?;
-        }
-    }
-    Ok(())
 }
 
 fn check_truths(truths: &[Truth], ranges: &[Variable]) -> Result<(), Refusal> {

@@ -11,7 +11,6 @@ mod file;
 mod intervals;
 mod limits;
 mod parse;
-mod ranks;
 mod records;
 mod refusal;
 mod report;

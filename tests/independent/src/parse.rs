@@ -18,7 +18,7 @@ pub fn parse(file: &[u8]) -> Result<File, Refusal> {
     let start = parser.start()?;
     let transitions = parser.transitions()?;
     let claim = parser.property()?;
-    let (nodes, ranks) = parser.nodes(&claim)?;
+    let nodes = parser.nodes(&claim)?;
     let edges = parser.edges(transitions.len(), nodes.len())?;
     parser.end()?;
     Ok(File {
@@ -27,7 +27,6 @@ pub fn parse(file: &[u8]) -> Result<File, Refusal> {
         transitions,
         claim,
         nodes,
-        ranks,
         edges,
     })
 }
@@ -215,7 +214,7 @@ impl<'a> Parser<'a> {
         let record = self.required(PROPERTY)?;
         // C1.4: b is zero but in a wait-for.
         let allowed = match record.a {
-            1 | 3 | 4 => record.zero_except(&[Field::A]),
+            1 | 3 => record.zero_except(&[Field::A]),
             2 => record.zero_except(&[Field::A, Field::B]) && phases_allowed(record.b),
             _ => false,
         };
@@ -224,8 +223,7 @@ impl<'a> Parser<'a> {
         match record.a {
             1 => self.invariance(),
             2 => self.wait_for(record.b),
-            3 => self.chain(),
-            _ => self.ranked_chain(),
+            _ => self.chain(),
         }
     }
 
@@ -246,32 +244,21 @@ impl<'a> Parser<'a> {
         Ok(Claim::Chain { p, q })
     }
 
-    fn ranked_chain(&mut self) -> Result<Claim, Refusal> {
-        let p = self.truth(1)?;
-        let q = self.truth(1)?;
-        Ok(Claim::RankedChain { p, q })
-    }
-
-    /// C1.13: a wait-for has as many as phases. One too many is 5; C11.4: one too few is 3. C1.18:
-    /// those of a ranked chain have ranks, the goal too.
-    fn nodes(&mut self, claim: &Claim) -> Result<(Vec<Truth>, Vec<Number>), Refusal> {
+    /// C1.13: a wait-for has as many as phases. One too many is 5; C11.4: one too few is 3.
+    fn nodes(&mut self, claim: &Claim) -> Result<Vec<Truth>, Refusal> {
         let (least, most) = match claim {
             Claim::WaitFor { q, .. } => (q.len(), q.len()),
-            _ => (1, MOST_NODES),
+            Claim::Invariance { .. } | Claim::Chain { .. } => (1, MOST_NODES),
         };
-        let ranked = matches!(claim, Claim::RankedChain { .. });
-        let (mut nodes, mut ranks) = (Vec::new(), Vec::new());
+        let mut nodes = Vec::new();
         while let Some(record) = self.optional(NODE) {
             self.fields(record.zero_except(&[]))?;
             self.within(nodes.len() < most)?;
             self.advance();
             nodes.push(self.truth(1)?);
-            if ranked {
-                ranks.push(self.number(1)?);
-            }
         }
         self.fits(nodes.len() >= least)?;
-        Ok((nodes, ranks))
+        Ok(nodes)
     }
 
     /// C1.14.

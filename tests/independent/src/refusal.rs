@@ -1,4 +1,4 @@
-//! Refusals: C10.n has the one with number n. 13 to 18 and 21 belong to the conditions.
+//! Refusals: C10.n has the one with number n. 13 to 18 belong to the conditions.
 
 pub const BUFFER: u8 = 1;
 pub const LENGTH: u8 = 2;

@@ -2,8 +2,8 @@
 --     position-enabling, position-before, position-after     the conditions of a node by their positions: enabling, and the pairs around it
 --     layout-bounds               the layout stays within the limits
 --     total-is, total-most        how many conditions there are, by the layout; at most 2,081
---     total-invariance, total-wait-for, total-chain, total-ranked                  how many, by claim (C8.15)
---     condition-opening, condition-cover, condition-rank, condition-move     the condition of a number, by the layout
+--     total-invariance, total-wait-for, total-chain          how many, by claim (C8.15)
+--     condition-opening, condition-cover, condition-move     the condition of a number, by the layout
 --     condition-listed, listed-number     a number below the total has a condition of the list, and a condition of the list has such a number (C8.3)
 --     listed-parts                what a listed condition speaks of is there
 --     names-small                 the numbers in its name are of one byte
@@ -23,18 +23,18 @@ use borrow.Author.Tests.{eq-eqb, ne_eqb, eqb-true, eqb-false, lt-ltb, le-ltb}
 use lib.Dec.{eqb, ltb}
 use lib.ListN.{length, get_or, length-append, get_or-append}
 use lib.Seq.{get_or-append-add}
-use Rattle.shapes.specs.declared.Claim.TheVariants.{Invariance, WaitFor, Chain, RankedChain}
+use Rattle.shapes.specs.declared.Claim.TheVariants.{Invariance, WaitFor, Chain}
 use Rattle.shapes.specs.Property.{property_of}
-use Rattle.shapes.proofs.Laws.Property.{invariance_row, wait_for_row, chain_row, ranked_row, from_most, doubles_from, ranks_most}
+use Rattle.shapes.proofs.Laws.Property.{invariance_row, wait_for_row, chain_row, from_most, doubles_from}
 use Rattle.diagrams.specs.declared.Diagram.{Diagram}
 use Rattle.diagrams.specs.Diagram.{Loaded}
 use Rattle.diagrams.proofs.Laws.Diagram.{promised}
 use Rattle.conditions.specs.Edges.{is_double}
-use Rattle.conditions.specs.Condition.{each, ranks_of, moves_of, opening_of, covered_of, conditions_of, total_of, condition_at, Listed}
+use Rattle.conditions.specs.Condition.{each, moves_of, opening_of, covered_of, conditions_of, total_of, condition_at, Listed}
 use Rattle.conditions.specs.Condition.{name_of, refusal_number, node_number, transition_number}
 use Rattle.conditions.specs.Layout.{double_of, layout_of, pair_of}
 use Rattle.conditions.specs.declared.Condition.{Condition}
-use Rattle.conditions.specs.declared.Condition.TheVariants.{Start, Entry, Cover, Rank, Range, Step, Enabling}
+use Rattle.conditions.specs.declared.Condition.TheVariants.{Start, Entry, Cover, Range, Step, Enabling}
 use Rattle.conditions.specs.declared.Blocks.{Blocks}
 use Rattle.conditions.proofs.Laws.Each.{each_same, each_length, each_at, each_in, at_in, member_at}
 use Rattle.conditions.proofs.Laws.Double.{double_is, double_some, double_none}
@@ -44,7 +44,6 @@ abbrev pub Parts : Diagram → Condition → Type 0
 Parts g Start = Unit {0}
 Parts g Entry = Unit {0}
 Parts g (Cover n) = n < g.nodes
-Parts g (Rank n i) = (n < g.nodes) × (i < (property_of g.claim).ranks)
 Parts g (Range n t) = (n < g.nodes) × (t < g.transitions)
 Parts g (Step n t) = (n < g.nodes) × (t < g.transitions)
 Parts g (Enabling n t) = (n < g.nodes) × (t < g.transitions)
@@ -157,19 +156,12 @@ twice_more : (m t : ℕ) → m * (2 * t + 1) ≡ 2 * m * t + m
 twice_more m t = omega arith
 
 -- ---- the list, by the layout
--- of a number k behind the covers: the node, by a quotient, and which of its ranks, by a remainder
-abbrev pub rank_node : Blocks → ℕ → ℕ
-rank_node l k = (k - 1 - l.covers) / l.ranks + l.from
-
-abbrev pub rank_by : Blocks → ℕ → ℕ
-rank_by l k = (k - 1 - l.covers) % l.ranks
-
--- of one behind the ranks too: the node, and the position among the node's conditions
+-- of a number k behind the covers: the node, by a quotient, and the position among the node's conditions, by a remainder
 abbrev pub node_by : Blocks → ℕ → ℕ
-node_by l k = (k - 1 - l.covers - l.ranked) / l.size + l.from
+node_by l k = (k - 1 - l.covers) / l.size + l.from
 
 abbrev pub position_by : Blocks → ℕ → ℕ
-position_by l k = (k - 1 - l.covers - l.ranked) % l.size
+position_by l k = (k - 1 - l.covers) % l.size
 
 module _ (file : List ℕ) (g : Diagram) where
   abbrev of_node : ℕ → List Condition
@@ -180,15 +172,9 @@ module _ (file : List ℕ) (g : Diagram) where
     pub nodes : g.nodes ≤ 32
     pub covers : l.covers ≤ g.nodes
     pub from : l.from ≤ g.nodes
-    pub all : l.covers + l.ranked + (g.nodes - l.from) * l.size ≤ 2080
+    pub product : (g.nodes - l.from) * l.size ≤ 2048
 
-  -- the condition of that number, of a rank
-  pub record Ranked (l : Blocks) (k : ℕ) : Type 0 where
-    pub some : 0 < l.ranks
-    pub node : rank_node l k < g.nodes
-    pub found : condition_at file g k ≡ Rank (rank_node l k) (rank_by l k)
-
-  -- or of a move
+  -- the condition of that number
   pub record Move (l : Blocks) (k : ℕ) : Type 0 where
     pub some : 0 < l.size
     pub node : node_by l k < g.nodes
@@ -227,41 +213,18 @@ module _ (file : List ℕ) (g : Diagram) (r : Loaded file g) where
   abbrev blocks : List Condition
   blocks = each (of_node file g) (g.nodes - layout.from) layout.from
 
-  abbrev ranked : List Condition
-  ranked = each (ranks_of g) (g.nodes - layout.from) layout.from
-
-  conditions_laid : conditions_of file g ≡ opening_of g ∷ covers ++ (ranked ++ blocks)
+  conditions_laid : conditions_of file g ≡ opening_of g ∷ covers ++ blocks
   unfolding conditions_of layout_of
   conditions_laid = refl
-
-  rank_size : (n : ℕ) → length (ranks_of g n) ≡ layout.ranks
-  unfolding ranks_of layout_of
-  rank_size n =
-      let ranks = (property_of g.claim).ranks in
-      each_length (λ i. Rank n i ∷ []) 1 ranks 0 (λ i p q. refl) ∙ mul-one ranks
-
-  rank_at : (n i : ℕ) → i < layout.ranks → get_or (ranks_of g n) i Start ≡ Rank n i
-  unfolding ranks_of layout_of
-  rank_at n i l =
-      let ranks = (property_of g.claim).ranks in
-      each_at (λ j. Rank n j ∷ []) 1 Start (omega arith) ranks 0 i (λ j p q. refl) (omega (arith, mul-one ranks))
-      ∙ ap₂ (λ (j k : ℕ). get_or (Rank n j ∷ []) k Start) (zero-add (i / 1) ∙ div-one i) (mod-one i)
-
-  ranked_is : layout.ranked ≡ (g.nodes - layout.from) * layout.ranks
-  unfolding layout_of
-  ranked_is = refl
-
-  ranked_length : length ranked ≡ layout.ranked
-  ranked_length = each_length (ranks_of g) layout.ranks (g.nodes - layout.from) layout.from (λ i p q. rank_size i) ∙ sym ranked_is
 
   covers_length : length covers ≡ layout.covers
   covers_length = each_length (λ n. Cover n ∷ []) 1 layout.covers 0 (λ i p q. refl) ∙ mul-one layout.covers
 
-  pub total_is : total_of file g ≡ 1 + layout.covers + layout.ranked + (g.nodes - layout.from) * layout.size
+  pub total_is : total_of file g ≡ 1 + layout.covers + (g.nodes - layout.from) * layout.size
   unfolding total_of
   total_is =
       let e = each_length (of_node file g) layout.size (g.nodes - layout.from) layout.from sizes in
-      rw (conditions_laid, length-append covers (ranked ++ blocks), length-append ranked blocks) (omega (arith, covers_length, ranked_length, e))
+      rw (conditions_laid, length-append covers blocks) (omega (arith, covers_length, e))
 
   pub condition_opening : condition_at file g 0 ≡ opening_of g
   unfolding condition_at
@@ -272,70 +235,44 @@ module _ (file : List ℕ) (g : Diagram) (r : Loaded file g) where
   condition_cover k l m =
       let e : k ≡ suc (k - 1) = omega arith in
       rw conditions_laid
-      (ap (λ (i : ℕ). get_or (opening_of g ∷ covers ++ (ranked ++ blocks)) i Start) e
-      ∙ get_or-append covers (ranked ++ blocks) Start (k - 1) (omega (arith, covers_length))
+      (ap (λ (i : ℕ). get_or (opening_of g ∷ covers ++ blocks) i Start) e
+      ∙ get_or-append covers blocks Start (k - 1) (omega (arith, covers_length))
       ∙ each_at (λ n. Cover n ∷ []) 1 Start (omega arith) layout.covers 0 (k - 1) (λ i p q. refl) (omega (arith, mul-one layout.covers))
       ∙ ap₂ (λ (n i : ℕ). get_or (Cover n ∷ []) i Start) (zero-add ((k - 1) / 1) ∙ div-one (k - 1)) (mod-one (k - 1)))
 
-  -- a number below a product of blocks: there is a block's size, and the number's block is one of them
-  in_block : (x n size : ℕ) → x < n * size → (0 < size) × (x / size < n)
-  in_block x n zero l = absurd (not-suc-le-zero (rw (mul-zero n) at l))
-  in_block x n (suc s) l = (zero-lt-suc s, (div-lt_iff_lt-mul {k = suc s} {x = x} {y = n} (zero-lt-suc s)).1 l)
-
-  pub condition_rank : (k : ℕ) → layout.covers < k → k - 1 - layout.covers < layout.ranked → Ranked file g layout k
+  pub condition_move : (k : ℕ) → layout.covers < k → k < total_of file g → Move file g layout k
   unfolding condition_at
-  condition_rank k l m =
+  condition_move k l m =
       let e : k ≡ suc (length covers + rest) = omega (arith, covers_length) in
-      record {
-        some = block.0;
-        node = omega (arith, block.1);
-        found =
-            rw conditions_laid
-            (ap (λ (i : ℕ). get_or (opening_of g ∷ covers ++ (ranked ++ blocks)) i Start) e
-            ∙ get_or-append-add covers (ranked ++ blocks) rest Start
-            ∙ get_or-append ranked blocks Start rest (omega (arith, ranked_length))
-            ∙ each_at (ranks_of g) layout.ranks Start block.0 (g.nodes - layout.from) layout.from rest (λ i p q. rank_size i) below
-            ∙ ap (λ (i : ℕ). get_or (ranks_of g i) (rest % layout.ranks) Start) (add_comm layout.from (rest / layout.ranks))
-            ∙ rank_at (rank_node layout k) (rest % layout.ranks) (mod-lt rest block.0));
-      }
-    where
-      rest : ℕ
-      rest = k - 1 - layout.covers
-
-      below : rest < (g.nodes - layout.from) * layout.ranks
-      below = omega (arith, ranked_is)
-
-      block : (0 < layout.ranks) × (rest / layout.ranks < g.nodes - layout.from)
-      block = in_block rest (g.nodes - layout.from) layout.ranks below
-
-  pub condition_move : (k : ℕ) → layout.covers < k → layout.ranked ≤ k - 1 - layout.covers → k < total_of file g → Move file g layout k
-  unfolding condition_at
-  condition_move k l a m =
-      let e : k ≡ suc (length covers + (length ranked + rest)) = omega (arith, covers_length, ranked_length) in
       record {
         some = some;
         node = node;
         found =
             rw conditions_laid
-            (ap (λ (i : ℕ). get_or (opening_of g ∷ covers ++ (ranked ++ blocks)) i Start) e
-            ∙ get_or-append-add covers (ranked ++ blocks) (length ranked + rest) Start
-            ∙ get_or-append-add ranked blocks rest Start
+            (ap (λ (i : ℕ). get_or (opening_of g ∷ covers ++ blocks) i Start) e
+            ∙ get_or-append-add covers blocks rest Start
             ∙ each_at (of_node file g) layout.size Start some (g.nodes - layout.from) layout.from rest sizes below
             ∙ ap (λ (i : ℕ). get_or (of_node file g i) (rest % layout.size) Start) (add_comm layout.from (rest / layout.size))
             ∙ node_position (node_by layout k) (rest % layout.size) (rw (node_size (node_by layout k) (omega arith) node) (mod-lt rest some)));
       }
     where
       rest : ℕ
-      rest = k - 1 - layout.covers - layout.ranked
+      rest = k - 1 - layout.covers
 
       below : rest < (g.nodes - layout.from) * layout.size
       below = omega (arith, total_is)
 
       some : 0 < layout.size
-      some = (in_block rest (g.nodes - layout.from) layout.size below).0
+      some = go layout.size refl
+        where
+          go : (n : ℕ) → layout.size ≡ n → 0 < n
+          go zero e = absurd (not-suc-le-zero (rw (e, mul-zero (g.nodes - layout.from)) at below))
+          go (suc n) e = zero-lt-suc n
 
       node : node_by layout k < g.nodes
-      node = omega (arith, (in_block rest (g.nodes - layout.from) layout.size below).1)
+      node =
+          let q = (div-lt_iff_lt-mul {k = layout.size} {x = rest} {y = g.nodes - layout.from} some).1 below in
+          omega arith
 
   -- ---- bounds and totals
   covered_most : covered_of g ≤ g.nodes
@@ -347,14 +284,14 @@ module _ (file : List ℕ) (g : Diagram) (r : Loaded file g) where
       by false = (promised file g r).nodes.0
 
   pub layout_bounds : Bounds file g layout
-  unfolding layout_of covered_of
+  unfolding layout_of
   layout_bounds =
       let p = promised file g r in
       record {
         nodes = p.nodes.1;
         covers = covered_most;
         from = omega (arith, from_most g.claim, p.nodes.0);
-        all = sum (ranks_most g.claim) p.nodes.1 p.transitions;
+        product = by (property_of g.claim).doubles refl p.nodes.1 p.transitions;
       }
     where
       from : ℕ
@@ -368,31 +305,9 @@ module _ (file : List ℕ) (g : Diagram) (r : Loaded file g) where
           omega (arith, q)
       by false d n t = mul-le-mul {n₁ = g.nodes - from} {m₁ = 2 * g.transitions + 0} {n₂ = 32} {m₂ = 64} (omega arith) (omega arith)
 
-      product : (g.nodes - from) * (2 * g.transitions + cond (property_of g.claim).doubles 1 0) ≤ 2048
-      product = let p = promised file g r in by (property_of g.claim).doubles refl p.nodes.1 p.transitions
-
-      one : (b : Bool) → cond b 1 0 ≤ 1
-      one true = omega arith
-      one false = omega arith
-
-      -- with ranks there are 31 nodes, none of them covered, each with up to two ranks
-      sum : ((property_of g.claim).ranks ≡ 0)
-          ⊎ (((property_of g.claim).ranks ≤ 2) × ((property_of g.claim).covered ≡ false) × ((property_of g.claim).from ≡ 1))
-          → g.nodes ≤ 32 → g.transitions ≤ 32
-          → covered_of g + (g.nodes - from) * (property_of g.claim).ranks
-          + (g.nodes - from) * (2 * g.transitions + cond (property_of g.claim).doubles 1 0) ≤ 2080
-      sum (inl e) n t = rw (e, mul-zero (g.nodes - from)) (omega (arith, product, covered_most))
-      sum (inr (few, c, f)) n t =
-          let ranks = (property_of g.claim).ranks in
-          let size = 2 * g.transitions + cond (property_of g.claim).doubles 1 0 in
-          let a = mul-le-mul {n₁ = g.nodes - from} {m₁ = ranks} {n₂ = 31} {m₂ = 2} (omega arith) few in
-          let b = mul-le-mul {n₁ = g.nodes - from} {m₁ = size} {n₂ = 31} {m₂ = 65} (omega arith)
-          (omega (arith, one (property_of g.claim).doubles)) in
-          rw c (omega (arith, a, b))
-
   -- at 32 nodes and 32 transitions of an invariance diagram there are as many
   pub total_most : total_of file g ≤ 2081
-  total_most = rw total_is (omega (arith, layout_bounds.all))
+  total_most = rw total_is (omega (arith, layout_bounds.nodes, layout_bounds.covers, layout_bounds.product))
 
   pub total_invariance : g.claim ≡ Invariance → total_of file g ≡ 1 + g.nodes + 2 * g.nodes * g.transitions
   unfolding layout_of covered_of
@@ -405,10 +320,6 @@ module _ (file : List ℕ) (g : Diagram) (r : Loaded file g) where
   pub total_chain : g.claim ≡ Chain → total_of file g ≡ 2 + 2 * (g.nodes - 1) * g.transitions + (g.nodes - 1)
   unfolding layout_of covered_of
   total_chain c = rw (total_is, c, chain_row) (omega (arith, twice_more (g.nodes - 1) g.transitions))
-
-  pub total_ranked : g.claim ≡ RankedChain → total_of file g ≡ 2 + 2 * (g.nodes - 1) + 2 * (g.nodes - 1) * g.transitions
-  unfolding layout_of covered_of
-  total_ranked c = rw (total_is, c, ranked_row, mul-one (g.nodes - 1)) (omega (arith, twice_more (g.nodes - 1) g.transitions))
 
   -- ---- membership
   pub condition_listed : (k : ℕ) → k < total_of file g → Listed file g (condition_at file g k)
@@ -426,12 +337,6 @@ module _ (file : List ℕ) (g : Diagram) (r : Loaded file g) where
       by : (b : Bool) → Parts g (cond b Entry Start)
       by true = tt
       by false = tt
-
-  rank_parts : (c : Condition) (n : ℕ) → n < g.nodes → Memᴰ c (ranks_of g n) → Parts g c
-  unfolding ranks_of
-  rank_parts c n l h =
-      let p = each_in (λ i. Rank n i ∷ []) c (property_of g.claim).ranks 0 h in
-      rw (Memᴰ.eq_of_singleton p.listed) (l, omega (arith, p.below))
 
   move_parts : (c : Condition) (n t : ℕ) → n < g.nodes → t < g.transitions → Memᴰ c (moves_of file g n t) → Parts g c
   unfolding moves_of
@@ -452,22 +357,16 @@ module _ (file : List ℕ) (g : Diagram) (r : Loaded file g) where
   pub listed_parts : (c : Condition) → Listed file g c → Parts g c
   listed_parts c m = opened (Memᴰ.cases_cons (rw conditions_laid at m))
     where
-      within : Memᴰ c ranked ⊎ Memᴰ c blocks → Parts g c
-      within (inl h) =
-          let p = each_in (ranks_of g) c (g.nodes - layout.from) layout.from h in
-          rank_parts c p.which (omega (arith, p.from, p.below)) p.listed
-      within (inr h) =
+      behind : Memᴰ c covers ⊎ Memᴰ c blocks → Parts g c
+      behind (inl h) =
+          let p = each_in (λ n. Cover n ∷ []) c layout.covers 0 h in
+          rw (Memᴰ.eq_of_singleton p.listed) (omega (arith, p.below, layout_bounds.covers))
+      behind (inr h) =
           let p = each_in (of_node file g) c (g.nodes - layout.from) layout.from h in
           let q = each_in (moves_of file g p.which) c g.transitions 0 p.listed in
           move_parts c p.which q.which (omega (arith, p.from, p.below)) (omega (arith, q.below)) q.listed
 
-      behind : Memᴰ c covers ⊎ Memᴰ c (ranked ++ blocks) → Parts g c
-      behind (inl h) =
-          let p = each_in (λ n. Cover n ∷ []) c layout.covers 0 h in
-          rw (Memᴰ.eq_of_singleton p.listed) (omega (arith, p.below, layout_bounds.covers))
-      behind (inr h) = within (Memᴰ.append_cases ranked h)
-
-      opened : (c ≡ opening_of g) ⊎ Memᴰ c (covers ++ (ranked ++ blocks)) → Parts g c
+      opened : (c ≡ opening_of g) ⊎ Memᴰ c (covers ++ blocks) → Parts g c
       opened (inl e) = rw e opening_parts
       opened (inr h) = behind (Memᴰ.append_cases covers h)
 
@@ -479,7 +378,6 @@ module _ (file : List ℕ) (g : Diagram) (r : Loaded file g) where
       go Start p n t = (omega arith, omega arith)
       go Entry p n t = (omega arith, omega arith)
       go (Cover i) p n t = (omega arith, omega arith)
-      go (Rank i j) p n t = (omega (arith, p.0), omega arith)
       go (Range i j) p n t = (omega (arith, p.0), omega (arith, p.1))
       go (Step i j) p n t = (omega (arith, p.0), omega (arith, p.1))
       go (Enabling i j) p n t = (omega (arith, p.0), omega (arith, p.1))
@@ -489,7 +387,6 @@ unfolding name_of
 refusal_above Start = omega arith
 refusal_above Entry = omega arith
 refusal_above (Cover n) = omega arith
-refusal_above (Rank n i) = omega arith
 refusal_above (Range n t) = omega arith
 refusal_above (Step n t) = omega arith
 refusal_above (Enabling n t) = omega arith

@@ -1,14 +1,13 @@
 -- Which conditions are listed.
 --     opening-in, cover-in, range-in, step_in                  the opening, the covers, and those of each node from the row's first on (C8.4 to C8.6)
 --     enabling-in                                              and of its double transition, if it has one (C8.6)
---     rank-in                                                  each rank of each of these nodes (C8.16)
 --     start-in, entry_in                                       the opening, by the row
 --     covered-in, goal-in                                      the cover of each node, where each is covered; that of node 0 always
 -- Assumes nothing.
 use mathlib.Core.Path.{◌≡◌, refl, subst}
 use mathlib.Core.Bool.{Bool, true, false, cond}
 use mathlib.Core.List.Memᴰ
-use mathlib.Core.List.{List, [], ◌∷◌, Memᴰ, ◌++◌}
+use mathlib.Core.List.{List, [], ◌∷◌, Memᴰ}
 use Prim.Native.Nat.{ℕ, ◌-◌, ◌≤◌, ◌<◌}
 use native.Mathlib.Omega.{arith}
 use Rattle.shapes.specs.Property.{property_of}
@@ -16,9 +15,9 @@ use Rattle.diagrams.specs.declared.Diagram.{Diagram}
 use Rattle.diagrams.specs.Diagram.{Loaded}
 use Rattle.diagrams.proofs.Laws.Diagram.{promised}
 use Rattle.conditions.specs.Edges.{is_double}
-use Rattle.conditions.specs.Condition.{each, ranks_of, moves_of, opening_of, covered_of, conditions_of, Listed}
+use Rattle.conditions.specs.Condition.{each, moves_of, opening_of, covered_of, conditions_of, Listed}
 use Rattle.conditions.specs.declared.Condition.{Condition}
-use Rattle.conditions.specs.declared.Condition.TheVariants.{Start, Entry, Cover, Rank, Range, Step, Enabling}
+use Rattle.conditions.specs.declared.Condition.TheVariants.{Start, Entry, Cover, Range, Step, Enabling}
 use Rattle.conditions.proofs.Laws.Each.{in_each}
 
 -- the opening and the covers, by the row
@@ -54,8 +53,7 @@ module _ (file : List ℕ) (g : Diagram) where
   pub cover_in : (n : ℕ) → n < covered_of g → Listed file g (Cover n)
   unfolding conditions_of
   cover_in n l =
-      Memᴰ.tail (Memᴰ.append_left
-      (each (ranks_of g) (g.nodes - from) from ++ each (λ k. each (moves_of file g k) g.transitions 0) (g.nodes - from) from)
+      Memᴰ.tail (Memᴰ.append_left (each (λ k. each (moves_of file g k) g.transitions 0) (g.nodes - from) from)
       (in_each (λ k. Cover k ∷ []) (covered_of g) 0 n (omega arith) (omega arith) (Memᴰ.head refl)))
 
   pub start_in : (property_of g.claim).entry ≡ false → Listed file g Start
@@ -70,22 +68,13 @@ module _ (file : List ℕ) (g : Diagram) where
   pub goal_in : Loaded file g → Listed file g (Cover 0)
   goal_in r = cover_in 0 (covered_some g (promised file g r).nodes.0)
 
-  pub rank_in : (n i : ℕ) → from ≤ n → n < g.nodes → i < (property_of g.claim).ranks → Listed file g (Rank n i)
-  unfolding conditions_of ranks_of
-  rank_in n i above below l =
-      Memᴰ.tail (Memᴰ.append_right (each (λ k. Cover k ∷ []) (covered_of g) 0)
-      (Memᴰ.append_left (each (λ k. each (moves_of file g k) g.transitions 0) (g.nodes - from) from)
-      (in_each (ranks_of g) (g.nodes - from) from n above (omega arith)
-      (in_each (λ j. Rank n j ∷ []) (property_of g.claim).ranks 0 i (omega arith) (omega arith) (Memᴰ.head refl)))))
-
   module _ (n t : ℕ) (above : from ≤ n) (below : n < g.nodes) (there : t < g.transitions) where
     move_in : (c : Condition) → Memᴰ c (moves_of file g n t) → Listed file g c
     unfolding conditions_of
     move_in c m =
         Memᴰ.tail (Memᴰ.append_right (each (λ k. Cover k ∷ []) (covered_of g) 0)
-        (Memᴰ.append_right (each (ranks_of g) (g.nodes - from) from)
         (in_each (λ k. each (moves_of file g k) g.transitions 0) (g.nodes - from) from n above (omega arith)
-        (in_each (moves_of file g n) g.transitions 0 t (omega arith) (omega arith) m))))
+        (in_each (moves_of file g n) g.transitions 0 t (omega arith) (omega arith) m)))
 
     pub range_in_lem : Listed file g (Range n t)
     unfolding moves_of

@@ -14,11 +14,11 @@ use Rattle.diagrams.proofs.Laws.Diagram.{promised}
 use Rattle.conditions.specs.Condition.{total_of, condition_at}
 use Rattle.conditions.specs.Layout.{double_edge, double_of, layout_of, pair_of}
 use Rattle.conditions.specs.declared.Blocks.{Blocks}
-use Rattle.conditions.specs.declared.Condition.TheVariants.{Cover, Rank, Enabling}
+use Rattle.conditions.specs.declared.Condition.TheVariants.{Cover, Enabling}
 use Rattle.truths.proofs.Laws.First.{first_is}
 use Rattle.conditions.proofs.Laws.Double.{double_most}
-use Rattle.conditions.proofs.Laws.Condition.{rank_node, rank_by, node_by, position_by, position_of, position_enabling, position_before, position_after}
-use Rattle.conditions.proofs.Laws.Condition.{Bounds, Ranked, Move, layout_bounds, total_is, condition_cover, condition_rank, condition_move}
+use Rattle.conditions.proofs.Laws.Condition.{node_by, position_by, position_of, position_enabling, position_before, position_after}
+use Rattle.conditions.proofs.Laws.Condition.{Bounds, Move, layout_bounds, total_is, condition_cover, condition_move}
 
 module _ (file : List ℕ) (g : Diagram) (node : ℕ) where
   -- the first e edges are no double edges from the node
@@ -59,17 +59,14 @@ module _ (file : List ℕ) (g : Diagram) (r : Loaded file g) {l : Blocks} (is : 
   pub laid_bounds : Bounds file g l
   laid_bounds = rw is (layout_bounds file g r)
 
-  pub laid_total : 1 + l.covers + l.ranked + (g.nodes - l.from) * l.size ≡ total_of file g
+  pub laid_total : 1 + l.covers + (g.nodes - l.from) * l.size ≡ total_of file g
   laid_total = rw is (sym (total_is file g r))
 
   pub laid_cover : (k : ℕ) → 0 < k → k ≤ l.covers → Cover (k - 1) ≡ condition_at file g k
   laid_cover k a b = sym (condition_cover file g r k a (rw is at b))
 
-  pub laid_rank : (k : ℕ) → l.covers < k → k - 1 - l.covers < l.ranked → Ranked file g l k
-  laid_rank k a b = rw is (condition_rank file g r k (rw is at a) (rw is at b))
-
-  pub laid_move : (k : ℕ) → l.covers < k → l.ranked ≤ k - 1 - l.covers → k < total_of file g → Move file g l k
-  laid_move k a b c = rw is (condition_move file g r k (rw is at a) (rw is at b) c)
+  pub laid_move : (k : ℕ) → l.covers < k → k < total_of file g → Move file g l k
+  laid_move k a b = rw is (condition_move file g r k (rw is at a) b)
 
 module _ (file : List ℕ) (g : Diagram) {l : Blocks} {k : ℕ} (m : Move file g l k) {d : ℕ} (is : d ≡ double_of file g (node_by l k)) where
   moved : condition_at file g k ≡ position_of (node_by l k) d (position_by l k)

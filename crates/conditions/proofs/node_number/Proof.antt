@@ -40,13 +40,6 @@ cast-result-4 : tie.Need-overflow-cast-result-4
 unfolding name_of
 cast-result-4 c = record { fits = omega (arith, rw c.before.condition4.given.1 at c.before.before.before.requires) }
 
-enum-known-condition-5 : tie.Need-enum-known-condition-5
-enum-known-condition-5 c = search rules
-
-cast-result-5 : tie.Need-overflow-cast-result-5
-unfolding name_of
-cast-result-5 c = record { fits = omega (arith, rw c.before.condition5.given.1 at c.before.before.before.requires) }
-
 returns : tie.Need-returns
 unfolding name_of
 returns c = rw c.enum_told.given.1
@@ -71,10 +64,6 @@ returns-6 : tie.Need-returns-6
 unfolding name_of
 returns-6 c = rw c.before.condition4.given.1
 
-returns-7 : tie.Need-returns-7
-unfolding name_of
-returns-7 c = rw c.before.condition5.given.1
-
 pub node-number-spec : {M : Type 1} → statement M
 node-number-spec =
     tie.close
@@ -89,12 +78,9 @@ node-number-spec =
     cast-result-3
     enum-known-condition-4
     cast-result-4
-    enum-known-condition-5
-    cast-result-5
     returns
     returns-2
     returns-3
     returns-4
     returns-5
-    returns-6
-    returns-7)
+    returns-6)

@@ -23,9 +23,6 @@ enum-told-5 c = search rules
 enum-told-6 : tie.Need-enum-told-6
 enum-told-6 c = search rules
 
-enum-told-7 : tie.Need-enum-told-7
-enum-told-7 c = search rules
-
 returns : tie.Need-returns
 unfolding name_of
 returns c = rw c.enum_told.given.1
@@ -50,10 +47,6 @@ returns-6 : tie.Need-returns-6
 unfolding name_of
 returns-6 c = rw c.enum-told6.given.1
 
-returns-7 : tie.Need-returns-7
-unfolding name_of
-returns-7 c = rw c.enum-told7.given.1
-
 pub refusal-number-spec : {M : Type 1} → statement M
 refusal-number-spec =
     tie.close
@@ -64,11 +57,9 @@ refusal-number-spec =
     enum-told-4
     enum-told-5
     enum-told-6
-    enum-told-7
     returns
     returns-2
     returns-3
     returns-4
     returns-5
-    returns-6
-    returns-7)
+    returns-6)

@@ -2,30 +2,32 @@
 -- Assumes nothing.
 use native.Mathlib.Omega.{arith}
 use Rattle.diagrams.proofs.Laws.Diagram.{promised}
+use Rattle.conditions.proofs.Laws.Condition.{Bounds}
 use Rattle.conditions.proofs.Steps.Condition.{laid_bounds, laid_total}
 use Rattle.conditions.proofs.total.Statement.{statement}
 use Rattle.conditions.proofs.total.Tie as tie
 
+bounds : (c : tie.After-layout) → Bounds c.before.before.args.file.now c.before.before.args.diagram c.layout.result
+bounds c = laid_bounds _ _ c.before.before.requires c.layout.ensures
+
 layout-requires : tie.Need-layout-requires
-layout-requires c κs = let p = promised _ _ c.before.requires in (p.transitions, p.nodes)
+layout-requires c κs = (promised _ _ c.before.requires).transitions
 
 sub-nodes : tie.Need-overflow-sub-nodes
-sub-nodes c = omega (arith, (laid_bounds _ _ c.before.before.before.before.requires c.before.before.layout.ensures).from)
+sub-nodes c = omega (arith, (bounds c.before.before).from)
 
 add-result : tie.Need-overflow-add-result
-add-result c = let b = laid_bounds _ _ c.before.before.before.before.before.requires c.before.before.before.layout.ensures in omega (arith, b.all)
-
-add-result-2 : tie.Need-overflow-add-result-2
-add-result-2 c = let b = laid_bounds _ _ c.before.before.before.before.before.before.requires c.before.before.before.before.layout.ensures in omega (arith, b.all)
+add-result c = let b = bounds c.before.before.before in omega (arith, b.nodes, b.covers)
 
 mul-result : tie.Need-overflow-mul-result
-mul-result c = let b = laid_bounds _ _ c.before.before.before.before.before.before.before.requires c.before.before.before.before.before.layout.ensures in omega (arith, b.all)
+mul-result c = omega (arith, (bounds c.before.before.before.before).product)
 
-add-result-3 : tie.Need-overflow-add-result-3
-add-result-3 c = let b = laid_bounds _ _ c.before.before.before.before.before.before.before.requires c.before.before.before.before.before.layout.ensures in omega (arith, b.all)
+add-result-2 : tie.Need-overflow-add-result-2
+add-result-2 c = let b = bounds c.before.before.before.before in omega (arith, b.nodes, b.covers, b.product)
 
 returns : tie.Need-returns
-returns c = laid_total _ _ c.before.before.before.before.before.before.before.requires c.before.before.before.before.before.layout.ensures
+returns c = laid_total _ _ c.before.before.before.before.before.before.requires c.before.before.before.before.layout.ensures
 
 pub total-spec : {M : Type 1} → statement M
-total-spec = tie.close (tie.spec layout-requires sub-nodes add-result add-result-2 mul-result add-result-3 returns)
+total-spec =
+    tie.close (tie.spec layout-requires sub-nodes add-result mul-result add-result-2 returns)

@@ -15,9 +15,6 @@ enum-told-2 c = search rules
 enum-told-3 : tie.Need-enum-told-3
 enum-told-3 c = search rules
 
-enum-told-4 : tie.Need-enum-told-4
-enum-told-4 c = search rules
-
 enum-known-condition : tie.Need-enum-known-condition
 enum-known-condition c = search rules
 
@@ -53,19 +50,15 @@ returns-3 c = rw c.enum-told3.given.1
 
 returns-4 : tie.Need-returns-4
 unfolding name_of
-returns-4 c = rw c.enum-told4.given.1
+returns-4 c = rw c.before.condition.given.1
 
 returns-5 : tie.Need-returns-5
 unfolding name_of
-returns-5 c = rw c.before.condition.given.1
+returns-5 c = rw c.before.condition2.given.1
 
 returns-6 : tie.Need-returns-6
 unfolding name_of
-returns-6 c = rw c.before.condition2.given.1
-
-returns-7 : tie.Need-returns-7
-unfolding name_of
-returns-7 c = rw c.before.condition3.given.1
+returns-6 c = rw c.before.condition3.given.1
 
 pub transition-number-spec : {M : Type 1} → statement M
 transition-number-spec =
@@ -74,7 +67,6 @@ transition-number-spec =
     enum_told
     enum-told-2
     enum-told-3
-    enum-told-4
     enum-known-condition
     cast-result
     enum-known-condition-2
@@ -86,5 +78,4 @@ transition-number-spec =
     returns-3
     returns-4
     returns-5
-    returns-6
-    returns-7)
+    returns-6)

@@ -174,7 +174,6 @@ module _ (file : List ℕ) (o : Outline) (r : read_of file ≡ Reading.Found o) 
         p = claimed 0 (rw (expressions_are file o.property) (omega (arith, some_phases)));
         q = q;
         assertion = assertion;
-        ranks = λ n l state s. rw (node_at n l) (evaluable.ranks_fit file o r state s n l);
         step = λ t l state s. rw (step_at_lem t l) (evaluable.transition_fits file o r state s t l);
         edge_here = λ e l. let h = (readable.fits file o r).edges_here in omega arith;
         edge = edge;

@@ -1,20 +1,17 @@
 -- Where the truths of a diagram stand: each holds where the expression there does.
 --     start-at, node_at, p-at, q-at     the start, a node, p, a node's q
---     ranks-at, ranks-length            a node's ranks, and how many it has (C1.18)
 --     q-only                            every node's q is the first, where there is one q (C8.9)
 -- Assumes nothing.
 use mathlib.Core.Path.{◌≡◌, refl}
 use mathlib.Core.List.{List}
 use Prim.Native.Nat.{ℕ}
 use lib.IntN.{ℤ}
-use lib.ListN.{length, get_or}
+use lib.ListN.{get_or}
 use mathlib.Core.Bool.{false}
 use Rattle.shapes.specs.Property.{property_of}
-use Rattle.expressions.specs.Expression.{holds_of, behind}
-use Rattle.expressions.specs.Numbers.{numbers_from}
-use Rattle.expressions.proofs.Laws.Numbers.{numbers_length}
+use Rattle.expressions.specs.Expression.{holds_of}
 use Rattle.diagrams.specs.declared.Diagram.{Diagram}
-use Rattle.diagrams.specs.Truth.{start_holds, node_holds, ranks_of, claimed_at, p_holds, q_number, q_at, q_holds}
+use Rattle.diagrams.specs.Truth.{start_holds, node_holds, claimed_at, p_holds, q_number, q_at, q_holds}
 
 module _ (file : List ℕ) (g : Diagram) (state : List ℤ) where
   pub start_at : start_holds file g state ≡ holds_of file g.start state
@@ -24,13 +21,6 @@ module _ (file : List ℕ) (g : Diagram) (state : List ℤ) where
   pub node_at : (n : ℕ) → node_holds file g n state ≡ holds_of file (get_or g.assertions n 0) state
   unfolding node_holds
   node_at n = refl
-
-  pub ranks_at : (n : ℕ) → ranks_of file g n state ≡ numbers_from file (property_of g.claim).ranks (behind file (get_or g.assertions n 0)) state
-  unfolding ranks_of
-  ranks_at n = refl
-
-  pub ranks_length : (n : ℕ) → length (ranks_of file g n state) ≡ (property_of g.claim).ranks
-  ranks_length n = rw (ranks_at n) (numbers_length file state (property_of g.claim).ranks (behind file (get_or g.assertions n 0)))
 
   pub p_at : p_holds file g state ≡ holds_of file (claimed_at file g 0) state
   unfolding p_holds

@@ -4,8 +4,7 @@
 --     number-inside                       a number lies in its extent
 --     truth-said                          a truth is what is said of it
 --     yes_true, no_false                  so what is seen to hold is true, and what is seen not to hold is false
---     seen-said, extent-inside            the same of a truth expression of a file, and of a number
---     at-bounded                          whose extent lies in bounds
+--     seen-said                           the same of a truth expression of a file
 -- Assumes nothing.
 use mathlib.Core.Path.{◌≡◌, refl}
 use mathlib.Core.List.{List}
@@ -23,10 +22,10 @@ use Rattle.records.specs.Kind.{number as number_sort, truth as truth_sort}
 use Rattle.records.specs.Form.{form_at}
 use Rattle.records.proofs.Laws.Kind.{number_forms, truth_forms}
 use Rattle.intervals.specs.Interval.{interval}
-use Rattle.expressions.specs.Expression.{part_at, number, truth, holds_of, value_of}
+use Rattle.expressions.specs.Expression.{part_at, number, truth, holds_of}
 use Rattle.expressions.specs.Fits.{Fits}
 use Rattle.expressions.proofs.Laws.Expression.{number_constant, number_variable, number_arithmetic, number_indicator, number_division, truth_literal}
-use Rattle.expressions.proofs.Laws.Expression.{truth_negation, truth_connective, truth_comparison, holds_is, value_is, fits_level, fits_record, fits_small, fits_one}
+use Rattle.expressions.proofs.Laws.Expression.{truth_negation, truth_connective, truth_comparison, holds_is, fits_level, fits_record, fits_small, fits_one}
 use Rattle.expressions.proofs.Laws.Expression.{fits_two, divisor_above, divisor_worth}
 use Rattle.expressions.proofs.Laws.Sound.{constant_in}
 use Rattle.states.proofs.Laws.State.{within_at}
@@ -36,7 +35,7 @@ use Rattle.domains.specs.declared.seen.Seen.{Seen}
 use Rattle.domains.specs.declared.seen.Seen.TheVariants.{Yes, No}
 use Rattle.domains.specs.declared.extents.Extent.{Extent}
 use Rattle.domains.specs.Seen.{Says}
-use Rattle.enclosures.specs.Enclosure.{number_in_by, truth_in_by, number_in, truth_in, seen_of, extent_at}
+use Rattle.enclosures.specs.Enclosure.{number_in_by, truth_in_by, number_in, truth_in, seen_of}
 use Rattle.domains.proofs.Laws.Seen.{yes_says, no_says, literal_says, opposite_says, connect_says}
 use Rattle.domains.proofs.Laws.Extent.{extent_bounded, extent_in, combine_bounded, divide_bounded, indicator_bounded, combine_in_extent}
 use Rattle.domains.proofs.Laws.Extent.{divide_in_extent, indicator_in_extent, compare_says}
@@ -188,11 +187,3 @@ module _ {b : Box} {state : List ℤ} (inside : Inside b state) where
   pub seen_said : (file : List ℕ) (at : ℕ) → Fits 16 truth_sort (part_at file at) state → Says (seen_of file at b) (holds_of file at state)
   unfolding seen_of
   seen_said file at h = rw (holds_is file at state) (truth_said 16 (part_at file at) h)
-
-  pub extent_inside : (file : List ℕ) (at : ℕ) → Fits 16 number_sort (part_at file at) state → In (value_of file at state) (extent_at file at b).span
-  unfolding extent_at
-  extent_inside file at h = rw (value_is file at state) (number_inside 16 (part_at file at) h)
-
-pub at_bounded : (file : List ℕ) (at : ℕ) (b : Box) → Bounded (extent_at file at b).span
-unfolding extent_at
-at_bounded file at b = number_bounded 16 (part_at file at) b

@@ -4,8 +4,7 @@
 --     numbered, number                             each number below that has a state, and each state such a number: they determine each other (C4.5)
 --     state-zero, next                             the first state, and the move forward from any but the last to the one numbered one higher (C4.4, C4.6)
 --     start_fits, claimed-fits, assertion-fits     in every state the start, each expression of the property and each node's assertion can be evaluated
---     ranks-fit                                    so can each node's ranks
---     transition-fits                              and each transition's guard and updates
+--     transition-fits                              so can each transition's guard and updates
 --     number-lies                                  and each number in them is worth something in its interval (C3.6)
 --     updates-all                                  its updates are all that reading found, each with its variable and its values in the state (C5.1)
 --     updates-variables, updates-once              they set the variables that reading lists, none twice (C1.17)
@@ -27,16 +26,15 @@ use lib.Signed.{◌≤ℤ◌, ≤ℤ_refl}
 use Rattle.integers.proofs.Laws.Parts.{ints}
 use Rattle.records.specs.Record.{field_a, value_b, value_c}
 use Rattle.records.specs.Kind.{number as number_sort, truth as truth_sort}
-use Rattle.sections.specs.Section.{property_at, expressions_of}
+use Rattle.sections.specs.Section.{expressions_of}
 use Rattle.shapes.specs.declared.Reading.{Reading}
 use Rattle.intervals.specs.Interval.{interval}
 use Rattle.reading.specs.Read.{read_of}
 use Rattle.intervals.specs.Expression.{Expression}
-use Rattle.reading.specs.Readable.{Update, Updates, Transition, Numbers}
+use Rattle.reading.specs.Readable.{Update, Updates, Transition}
 use Rattle.reading.proofs.Laws.Readable as readable
-use Rattle.expressions.specs.Expression.{part_at, behind, number as worth}
-use Rattle.expressions.specs.Fits.{Fits, NumbersFit}
-use Rattle.expressions.proofs.Laws.Numbers.{fit_none, fit_more}
+use Rattle.expressions.specs.Expression.{part_at, number as worth}
+use Rattle.expressions.specs.Fits.{Fits}
 use Rattle.states.specs.Ranges.{Ranges}
 use Rattle.ranges.specs.Range.{lows_of, highs_of}
 use Rattle.ranges.specs.State.{State}
@@ -122,15 +120,6 @@ module _ (file : List ℕ) (o : Outline) (r : read_of file ≡ Reading.Found o) 
 
     pub assertion_fits : (n : ℕ) (l : n < o.nodes) → Fits 16 truth_sort (part_at file ((readable.node file o r n l).place + 1)) state
     assertion_fits n l = fits _ _ _ _ (readable.node file o r n l).assertion
-
-    numbers_fit : {end n at : ℕ} → Numbers file o.vars end n at → NumbersFit file n at state
-    numbers_fit Numbers.none = fit_none file _ state
-    numbers_fit (Numbers.more {n = n} {at = at} x rest) =
-        fit_more file at state n (fits _ _ _ _ x) (rw (behind_end x) (numbers_fit rest))
-
-    pub ranks_fit : (n : ℕ) (l : n < o.nodes)
-        → NumbersFit file (property_at file o.property).ranks (behind file ((readable.node file o r n l).place + 1)) state
-    ranks_fit n l = let x = readable.node file o r n l in rw (behind_end x.assertion) (numbers_fit x.ranks)
 
     pub transition_fits : (t : ℕ) (l : t < o.transitions) → TransitionFits file (readable.transition file o r t l).place state
     transition_fits t l =

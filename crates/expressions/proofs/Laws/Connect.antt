@@ -38,11 +38,3 @@ module _ (P : Bool → Type 0) (kind : ℕ) where
   compare_by x y a l m =
       by-test (eqb kind 0x27) (λ t. P (cond t (eq_z x y) (cond (eqb kind 0x28) (lt_z x y) (le_z x y)))) a
       (λ e. by-test (eqb kind 0x28) (λ t. P (cond t (lt_z x y) (le_z x y))) (l e) (m e))
-
-pub compare_equal : (x y : ℤ) → compare_of 0x27 x y ≡ eq_z x y
-unfolding compare_of
-compare_equal x y = refl
-
-pub compare_less : (x y : ℤ) → compare_of 0x28 x y ≡ lt_z x y
-unfolding compare_of
-compare_less x y = refl

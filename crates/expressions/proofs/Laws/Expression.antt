@@ -3,7 +3,7 @@
 --     number-constant, number-variable, number-arithmetic, number-indicator     a number of each form (C2.3 to C2.6)
 --     number-division                                         and a quotient or remainder (C2.14)
 --     truth-literal, truth-negation, truth-connective, truth-comparison         a truth of each form (C2.7 to C2.10)
---     holds-is, value-is                                      a truth expression of a file, and a number
+--     holds-is                                                a truth expression of a file
 --     fits-level, fits-record, fits-small                     an expression that fits has a level and a record that fits, and a number is small
 --     fits-opens, fits_one, fits-two                          its operands fit
 --     divisor-above, divisor-worth                            a divisor is above 0, and worth its own value
@@ -31,7 +31,7 @@ use Rattle.records.proofs.Laws.Kind.{operands_most, form_range, signature_by}
 use Rattle.records.proofs.Laws.Span.{spans_none, spans_one, spans_two, span_opens}
 use Rattle.intervals.specs.Interval.{combine, divide}
 use Rattle.expressions.specs.Expression.{part_at, first_operand, second_operand, indicator_of, connect_of, compare_of, number_by, truth_by, number, truth}
-use Rattle.expressions.specs.Expression.{holds_of, value_of}
+use Rattle.expressions.specs.Expression.{holds_of}
 use Rattle.expressions.specs.Fits.{RecordFits, OperandsFit, Fits}
 
 -- ---- the operands
@@ -123,10 +123,6 @@ module _ {levels below : ℕ} (e : levels ≡ suc below) (part : List ℕ) (stat
 pub holds_is : (file : List ℕ) (at : ℕ) (state : List ℤ) → holds_of file at state ≡ truth 16 (part_at file at) state
 unfolding holds_of
 holds_is file at state = refl
-
-pub value_is : (file : List ℕ) (at : ℕ) (state : List ℤ) → value_of file at state ≡ number 16 (part_at file at) state
-unfolding value_of
-value_is file at state = refl
 
 -- ---- an expression that fits
 pub fits_level : (levels want : ℕ) (part : List ℕ) (state : List ℤ) → Fits levels want part state → levels ≡ suc (levels - 1)

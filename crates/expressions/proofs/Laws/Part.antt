@@ -2,7 +2,6 @@
 --     take_rest                      a part that is lent runs to the end
 --     lent, entry                    the expression at a record may be handed on, and the table has an entry for it
 --     behind-is, behind-within       the table says where it ends
---     behind-asked                   what `behind` asks
 --     behind-end                     that is where it ends in a readable file
 -- Assumes nothing.
 use mathlib.Core.Path.{◌≡◌, sym}
@@ -47,10 +46,6 @@ module _ (file table : List ℕ) (s : Spans file table) (want at : ℕ) (state :
   behind_within =
       let w = fits_within 16 want (part_at file at) state h in
       omega (arith, s.right at 16 want state h, fits_here file at 16 want state h, length-drop (8 * at) file)
-
-  -- so the function may be asked
-  pub behind_asked : (at < 4096) × (at + get_or table at 0 ≤ 4096)
-  behind_asked = (entry, omega (arith, behind_within, s.enough))
 
 -- ---- of a readable file
 pub behind_end : {file : List ℕ} {vars want at end : ℕ} {i : Interval} → Expression file vars 16 want at end i → behind file at ≡ end

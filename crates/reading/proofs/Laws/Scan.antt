@@ -14,10 +14,9 @@ use Rattle.records.specs.declared.walk.Walked.{Walked}
 use Rattle.shapes.specs.declared.Outline.{Outline}
 use Rattle.records.specs.Record.{field_a, kind_is}
 use Rattle.records.specs.Kind.{none, number, truth, within, signature_of}
-use Rattle.records.specs.Walk.{in_sequence, walk_of, truth_of}
+use Rattle.records.specs.Walk.{walk_of, truth_of}
 use Rattle.sections.specs.Section.{property_at, is_update, update_fields, update_of, transition_of, expressions_of, phases_or}
 use Rattle.records.proofs.Laws.Kind.{head_none}
-use Rattle.records.proofs.Laws.Walk.{sequence_induct}
 use Rattle.truths.proofs.Laws.Truth.{by-test}
 use Rattle.sections.proofs.Laws.Section.{update_assigns, update_pick, update_named, pick_ends, assignment_ends, updates_induct}
 use Rattle.sections.proofs.Laws.Section.{sequence_reach, transition_just, transition_opens, node_opens}
@@ -25,7 +24,7 @@ use Rattle.sections.proofs.Laws.Counted.{transitions_reach, nodes_reach}
 use Rattle.parsing.proofs.Laws.Parsed.{variables_most}
 use Rattle.parsing.proofs.Laws.Through as through
 use Rattle.intervals.specs.Expression.{Expression}
-use Rattle.reading.specs.Readable.{Start, Apart, Update, Updates, Transition, PropertyExpression, Numbers, Node}
+use Rattle.reading.specs.Readable.{Start, Apart, Update, Updates, Transition, PropertyExpression, Node}
 use Rattle.intervals.proofs.Laws.Scan.{Scan, Tried, scan_begins, scan_head, scan_expression}
 use Rattle.reading.proofs.Laws.Stage.{Stages}
 
@@ -178,14 +177,6 @@ module _ (file : List ℕ) (o : Outline) (r : Stages file o) where
       let p = passing file last o.vars truth n.place n.behind (λ z. omega arith) n.ends n.holds in
       record { place = n.place; end = n.behind; reached = n.reached; interval = p.interval; expression = p.expression }
 
-  -- numbers in a row
-  numbers_passing : (end n at : ℕ) → in_sequence (walk_of file o.vars 16 number) n at ≡ Walked.End end → Onward at → Numbers file o.vars end n at
-  numbers_passing end =
-      sequence_induct (walk_of file o.vars 16 number) end (λ n at. Onward at → Numbers file o.vars end n at) (λ s. Numbers.none)
-      (λ n at x w rest s.
-      let p = passing file last o.vars number at x (λ z. omega arith) w s in
-      Numbers.more p.expression (rest p.rest))
-
   pub node_scanned : (n : ℕ) → n < o.nodes → Node file o n
   node_scanned n l =
       let s = through.at_nodes file o r.parsed Onward onward_head onward_expression onward_first in
@@ -202,5 +193,5 @@ module _ (file : List ℕ) (o : Outline) (r : Stages file o) where
         named = h.named;
         interval = p.interval;
         assertion = p.expression;
-        ranks = numbers_passing h.end ranks a.mid a.rest p.rest;
+        ranks = a.rest;
       }

@@ -1,11 +1,10 @@
 -- Laws of the table of properties.
 --     known-claims        the claims that there are (C1.10)
 --     unknown             there is no other
---     invariance-row, wait-for-row, chain-row, ranked-row     the row of each
+--     invariance-row, wait-for-row, chain-row     the row of each
 --     from-most           conditions of range and step begin at node 0 or 1
 --     entry-from          at node 1 exactly where p stands before q: node 0 is then the goal (C8.2)
 --     doubles-from        so where edges may be double
---     ranks-most          there are two ranks at most, and those only where node 0 alone is covered
 -- Assumes nothing.
 use mathlib.Core.Path.{◌≡◌, refl}
 use mathlib.Core.Logic.{◌⊎◌, inl, inr}
@@ -13,15 +12,14 @@ use mathlib.Core.Bool.{true, false, false≢true, cond}
 use Prim.Native.Nat.{◌≤◌}
 use native.Mathlib.Omega.{arith}
 use Rattle.shapes.specs.declared.Claim.{Claim}
-use Rattle.shapes.specs.declared.Claim.TheVariants.{Invariance, WaitFor, Chain, RankedChain, Unknown}
+use Rattle.shapes.specs.declared.Claim.TheVariants.{Invariance, WaitFor, Chain, Unknown}
 use Rattle.shapes.specs.Property.{property_of}
 
-pub known_claims : (c : Claim) → (property_of c).known ≡ true → (c ≡ Invariance) ⊎ ((c ≡ WaitFor) ⊎ ((c ≡ Chain) ⊎ (c ≡ RankedChain)))
+pub known_claims : (c : Claim) → (property_of c).known ≡ true → (c ≡ Invariance) ⊎ ((c ≡ WaitFor) ⊎ (c ≡ Chain))
 unfolding property_of
 known_claims Invariance k = inl refl
 known_claims WaitFor k = inr (inl refl)
-known_claims Chain k = inr (inr (inl refl))
-known_claims RankedChain k = inr (inr (inr refl))
+known_claims Chain k = inr (inr refl)
 known_claims Unknown k = absurd (false≢true k)
 
 pub unknown : (property_of Unknown).known ≡ false
@@ -42,17 +40,11 @@ pub chain_row : property_of Chain ≡ record { known = true; phased = false; ent
 unfolding property_of
 chain_row = refl
 
-pub ranked_row : property_of RankedChain
-    ≡ record { known = true; phased = false; entry = true; covered = false; from = 1; rising = true; doubles = true; ranks = 1 }
-unfolding property_of
-ranked_row = refl
-
 pub from_most : (c : Claim) → (property_of c).from ≤ 1
 unfolding property_of
 from_most Invariance = omega arith
 from_most WaitFor = omega arith
 from_most Chain = omega arith
-from_most RankedChain = omega arith
 from_most Unknown = omega arith
 
 pub entry_from : (c : Claim) → (property_of c).from ≡ cond (property_of c).entry 1 0
@@ -60,21 +52,11 @@ unfolding property_of
 entry_from Invariance = refl
 entry_from WaitFor = refl
 entry_from Chain = refl
-entry_from RankedChain = refl
 entry_from Unknown = refl
-
-pub ranks_most : (c : Claim) → ((property_of c).ranks ≡ 0) ⊎ (((property_of c).ranks ≤ 2) × ((property_of c).covered ≡ false) × ((property_of c).from ≡ 1))
-unfolding property_of
-ranks_most Invariance = inl refl
-ranks_most WaitFor = inl refl
-ranks_most Chain = inl refl
-ranks_most RankedChain = inr (omega arith, refl, refl)
-ranks_most Unknown = inl refl
 
 pub doubles_from : (c : Claim) → (property_of c).doubles ≡ true → (property_of c).from ≡ 1
 unfolding property_of
 doubles_from Invariance d = absurd (false≢true d)
 doubles_from WaitFor d = absurd (false≢true d)
 doubles_from Chain d = refl
-doubles_from RankedChain d = refl
 doubles_from Unknown d = absurd (false≢true d)

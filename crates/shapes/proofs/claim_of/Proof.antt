@@ -26,13 +26,7 @@ returns-4 : tie.Need-returns-4
 unfolding claim_of
 returns-4 c =
     let a = c.before.args.a in
-    simp (ne_eqb a 1 (λ e. omega arith), ne_eqb a 2 (λ e. omega arith), ne_eqb a 3 (λ e. omega arith), eq-eqb a 4 (omega arith))
-
-returns-5 : tie.Need-returns-5
-unfolding claim_of
-returns-5 c =
-    let a = c.before.args.a in
-    simp (ne_eqb a 1 (λ e. omega arith), ne_eqb a 2 (λ e. omega arith), ne_eqb a 3 (λ e. omega arith), ne_eqb a 4 (λ e. omega arith))
+    simp (ne_eqb a 1 (λ e. omega arith), ne_eqb a 2 (λ e. omega arith), ne_eqb a 3 (λ e. omega arith))
 
 pub claim-of-spec : {M : Type 1} → statement M
-claim-of-spec = tie.close (tie.spec returns returns-2 returns-3 returns-4 returns-5)
+claim-of-spec = tie.close (tie.spec returns returns-2 returns-3 returns-4)

@@ -17,9 +17,6 @@ enum-told-3 c = search rules
 enum-told-4 : tie.Need-enum-told-4
 enum-told-4 c = search rules
 
-enum-told-5 : tie.Need-enum-told-5
-enum-told-5 c = search rules
-
 returns : tie.Need-returns
 unfolding property_of
 returns c = rw c.enum_told.given.1
@@ -36,11 +33,7 @@ returns-4 : tie.Need-returns-4
 unfolding property_of
 returns-4 c = rw c.enum-told4.given.1
 
-returns-5 : tie.Need-returns-5
-unfolding property_of
-returns-5 c = rw c.enum-told5.given.1
-
 pub property-of-spec : {M : Type 1} → statement M
 property-of-spec =
     tie.close
-    (tie.spec enum_told enum-told-2 enum-told-3 enum-told-4 enum-told-5 returns returns-2 returns-3 returns-4 returns-5)
+    (tie.spec enum_told enum-told-2 enum-told-3 enum-told-4 returns returns-2 returns-3 returns-4)

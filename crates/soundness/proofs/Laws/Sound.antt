@@ -1,51 +1,45 @@
 -- Where every listed condition holds at every state, what the file claims is true of every run of its system.
 --     sound     by the theorem of the claim's kind: the diagram's edges and listed conditions meet what it asks (C12.11)
 -- Assumes nothing.
-use mathlib.Core.Path.{◌≡◌, refl, sym, ap, subst, ◌∙◌}
+use mathlib.Core.Path.{◌≡◌, refl, sym, subst, ◌∙◌}
 use mathlib.Core.Logic.{◌⊎◌, ◌≢◌, inl, inr}
 use mathlib.Core.Bool.{true, false, not, ◌&&◌, false≢true}
 use mathlib.Core.List.{List}
 use Prim.Native.Nat.{ℕ, suc, ◌-◌, ◌≤◌, ◌<◌}
 use native.Mathlib.Omega.{arith}
 use borrow.Author.Tests.{eq-eqb, eqb-true}
-use lib.Dec.{T, T_not, eqb}
-use lib.ListN.{get_or}
-use lib.IntN.{ℤ, pos}
-use lib.Signed.{le_z, le_z_yes, ◌≤ℤ◌, ◌<ℤ◌}
+use lib.Dec.{T, T_not}
+use lib.IntN.{ℤ}
 use Rattle.truths.specs.Listed.{all_pass}
 use Rattle.truths.proofs.Laws.Listed.{all_pass_member}
-use Rattle.truths.proofs.Laws.Truth.{is_true, so_true, implied, both, left, right, either, or_cases, or_other}
+use Rattle.truths.proofs.Laws.Truth.{is_true, so_true, implied, both, left, right, either}
 use Rattle.shapes.specs.declared.Claim.{Claim as Kind}
 use Rattle.shapes.specs.Property.{property_of}
-use Rattle.shapes.proofs.Laws.Property.{invariance_row, wait_for_row, chain_row, ranked_row, doubles_from, unknown}
+use Rattle.shapes.proofs.Laws.Property.{invariance_row, wait_for_row, chain_row, unknown}
 use Rattle.diagrams.specs.declared.Diagram.{Diagram}
 use Rattle.diagrams.specs.Diagram.{Loaded, State, edge_of}
-use Rattle.diagrams.specs.Truth.{start_holds, node_holds, ranks_of, p_holds, q_holds}
+use Rattle.diagrams.specs.Truth.{start_holds, node_holds, p_holds, q_holds}
 use Rattle.diagrams.specs.System.{just_of, guard_holds, values_fit, is_enabled, next_states}
 use Rattle.diagrams.specs.Promise.{DoubleTransition, Promise}
 use Rattle.diagrams.proofs.Laws.Diagram.{promised}
-use Rattle.diagrams.proofs.Laws.Truth.{ranks_length, q_only}
+use Rattle.diagrams.proofs.Laws.Truth.{q_only}
 use Rattle.diagrams.proofs.Laws.System.{enabled_and}
-use Rattle.ranks.specs.Order.{lower, same}
-use Rattle.ranks.proofs.Laws.Order.{same_is, lower_one}
 use Rattle.conditions.specs.Edges.{is_double}
 use Rattle.conditions.specs.Condition.{Listed}
 use Rattle.conditions.specs.Layout.{double_of}
 use Rattle.conditions.specs.declared.Condition.{Condition}
-use Rattle.conditions.specs.declared.Condition.TheVariants.{Start, Entry, Cover, Rank, Range, Step, Enabling}
+use Rattle.conditions.specs.declared.Condition.TheVariants.{Start, Entry, Cover, Range, Step, Enabling}
 use Rattle.conditions.proofs.Laws.Double.{carries_parts, edge_double, double_is}
-use Rattle.conditions.proofs.Laws.Listed.{start_in, entry_in, covered_in, goal_in, rank_in, range_in_lem, step_in, enabling_in}
-use Rattle.testing.specs.Holding.{some_node, falls_to, some_target, keeps_node, step_leads, condition_holds}
-use Rattle.testing.proofs.Laws.Holding.{node_some, target_some, leads_either, keeps_both, falls_unless, start_says, entry_says, cover_says, rank_says}
-use Rattle.testing.proofs.Laws.Holding.{range_says, step_says, enabling_says}
+use Rattle.conditions.proofs.Laws.Listed.{start_in, entry_in, covered_in, goal_in, range_in_lem, step_in, enabling_in}
+use Rattle.testing.specs.Holding.{some_node, some_target, step_leads, condition_holds}
+use Rattle.testing.proofs.Laws.Holding.{node_some, target_some, leads_either, start_says, entry_says, cover_says, range_says, step_says, enabling_says}
 use Rattle.runs.specs.Run.{Successor}
 use Rattle.runs.proofs.Laws.Diagram.{Diagram as Drawn, SomeNode, Target, RangeAt, StepAt, ChainStepAt, Entered, Covered, EnabledAt}
-use Rattle.runs.proofs.Laws.Diagram.{InvarianceConditions, WaitForConditions, ChainConditions, LowerTarget, RankedStepAt, RankedChainConditions}
+use Rattle.runs.proofs.Laws.Diagram.{InvarianceConditions, WaitForConditions, ChainConditions}
 use Rattle.runs.proofs.Laws.Invariance.{invariance, invariance_in_range}
 use Rattle.runs.proofs.Laws.WaitFor.{wait_for, wait_for_in_range}
 use Rattle.runs.proofs.Laws.Chain.{chain, chain_in_range}
-use Rattle.runs.proofs.Laws.RankedChain.{ranked_chain, ranked_chain_in_range}
-use Rattle.soundness.specs.System.{system_of, rank_of, Claimed}
+use Rattle.soundness.specs.System.{system_of, Claimed}
 
 -- an edge of the diagram, of transition t from node i to node j
 record EdgeFrom (file : List ℕ) (g : Diagram) (t i j : ℕ) : Type 0 where
@@ -81,9 +75,6 @@ module _ (file : List ℕ) (g : Diagram) where
       implied (node_holds file g i s && guard_holds file g t s) (values_fit file g t s) (sym (range_says file g s i t) ∙ h s w)
       (both (node_holds file g i s) (guard_holds file g t s) y z)
 
-  rank_holds : (i : ℕ) → Holds (Rank i 0) → (s : List ℤ) → State g s → T (node_holds file g i s) → pos 0 ≤ℤ rank_of file g i s
-  rank_holds i h s w y = le_z_yes (implied (node_holds file g i s) (le_z (pos 0) (rank_of file g i s)) (sym (rank_says file g s i 0) ∙ h s w) y)
-
   enabling_holds : (i t : ℕ) → Holds (Enabling i t) → EnabledAt (system_of file g) (drawn file g) i t
   enabling_holds i t h s w y =
       subst T (enabled_and file g t s) (implied (node_holds file g i s) (is_enabled file g t s) (sym (enabling_says file g s i t) ∙ h s w) y)
@@ -92,48 +83,40 @@ module _ (file : List ℕ) (g : Diagram) (r : Loaded file g) where
   keeps : Promise file g
   keeps = promised file g r
 
-  -- each successor s' of a step from s satisfies the node itself, with the ranks that it had, if t is not its double transition; or a target, to which the
-  -- step falls
-  abbrev Reached : ℕ → ℕ → List ℤ → List ℤ → Type 0
-  Reached i t s s' =
-      (T (not (is_double file g i t)) × T (node_holds file g i s') × (same (ranks_of file g i s') (ranks_of file g i s) ≡ true))
-      ⊎ ((j : ℕ) × (j < g.nodes) × EdgeFrom file g t i j × T (node_holds file g j s') × (falls_to file g i s j s' ≡ true))
+  target : (i t : ℕ) (s : List ℤ) → T (some_target file g i t s) → Target (system_of file g) (drawn file g) t i s
+  target i t s y =
+      let x = target_some file g i t s (is_true _ y) in
+      let named = (carries_parts i t (edge_of file g x.0)).0 x.2 in (
+        (edge_of file g x.0).to,
+        (keeps.edge x.0 x.1).to,
+        record { number = x.0; there = x.1; carried = named.1; from = named.0; to = refl },
+        so_true _ x.3,
+      )
 
-  reached : (i t : ℕ) (s s' : List ℤ) → T (step_leads file g i t s s') → Reached i t s s'
-  reached i t s s' y =
-      go (either (not (is_double file g i t) && keeps_node file g i s s') (some_target file g i t s s') (subst T (leads_either file g i t s s') y))
+  -- each successor of a step satisfies the node itself, if t is not its double transition, or a target
+  abbrev Reached : ℕ → ℕ → List ℤ → Type 0
+  Reached i t s = (T (not (is_double file g i t)) × T (node_holds file g i s)) ⊎ Target (system_of file g) (drawn file g) t i s
+
+  reached : (i t : ℕ) (s : List ℤ) → T (step_leads file g i t s) → Reached i t s
+  reached i t s y =
+      go (either (not (is_double file g i t) && node_holds file g i s) (some_target file g i t s) (subst T (leads_either file g i t s) y))
     where
-      go : T (not (is_double file g i t) && keeps_node file g i s s') ⊎ T (some_target file g i t s s') → Reached i t s s'
-      go (inl z) =
-          let k = subst T (keeps_both file g i t s s') (right (not (is_double file g i t)) (keeps_node file g i s s') z) in
-          inl (
-            left (not (is_double file g i t)) (keeps_node file g i s s') z,
-            left (node_holds file g i s') (same (ranks_of file g i s') (ranks_of file g i s)) k,
-            is_true _ (right (node_holds file g i s') (same (ranks_of file g i s') (ranks_of file g i s)) k),
-          )
-      go (inr z) =
-          let x = target_some file g i t s s' (is_true _ z) in
-          let named = (carries_parts i t (edge_of file g x.0)).0 x.2 in
-          inr (
-            (edge_of file g x.0).to,
-            (keeps.edge x.0 x.1).to,
-            record { number = x.0; there = x.1; carried = named.1; from = named.0; to = refl },
-            so_true _ x.3,
-            x.4,
-          )
+      go : T (not (is_double file g i t) && node_holds file g i s) ⊎ T (some_target file g i t s) → Reached i t s
+      go (inl z) = inl (left (not (is_double file g i t)) (node_holds file g i s) z, right (not (is_double file g i t)) (node_holds file g i s) z)
+      go (inr z) = inr (target i t s z)
 
   step_holds : (i t : ℕ) → Holds file g (Step i t) → (s s' : List ℤ) → State g s → T (node_holds file g i s)
-      → Successor (system_of file g) t s s' → Reached i t s s'
+      → Successor (system_of file g) t s s' → Reached i t s'
   step_holds i t h s s' w y (act, m) =
-      let all = implied (node_holds file g i s) (all_pass (step_leads file g i t s) (next_states file g t s)) (sym (step_says file g s i t) ∙ h s w) y in
-      reached i t s s' (so_true _ (all_pass_member (step_leads file g i t s) (next_states file g t s) s' (is_true _ all) m))
+      let all = implied (node_holds file g i s) (all_pass (step_leads file g i t) (next_states file g t s)) (sym (step_says file g s i t) ∙ h s w) y in
+      reached i t s' (so_true _ (all_pass_member (step_leads file g i t) (next_states file g t s) s' (is_true _ all) m))
 
   keep : (i t : ℕ) → Holds file g (Step i t) → StepAt (system_of file g) (drawn file g) i t
   keep i t h s s' w y z = go (step_holds i t h s s' w y z)
     where
-      go : Reached i t s s' → T (node_holds file g i s') ⊎ Target (system_of file g) (drawn file g) t i s'
-      go (inl (a, b, r)) = inl b
-      go (inr (j, l, x, b, f)) = inr (j, l, x, b)
+      go : Reached i t s' → T (node_holds file g i s') ⊎ Target (system_of file g) (drawn file g) t i s'
+      go (inl (a, b)) = inl b
+      go (inr x) = inr x
 
   -- where edges don't rise
   not_up : (property_of g.claim).rising ≡ false → (t i j : ℕ) → EdgeFrom file g t i j → j ≤ i
@@ -179,14 +162,17 @@ module _ (file : List ℕ) (g : Diagram) (r : Loaded file g) where
             step = λ i one h t ht. keep i t (all (Step i t) (step_in file g i t (above i one) h ht));
           }
 
-    -- ---- double transitions
-    module _ (doubles : (property_of g.claim).doubles ≡ true) where
+    -- ---- chain
+    module _ (kind : g.claim ≡ Kind.Chain) where
+      falls : (property_of g.claim).rising ≡ false
+      falls = rw (kind, chain_row) refl
+
       behind : (i : ℕ) → 1 ≤ i → (property_of g.claim).from ≤ i
-      behind i one = rw (doubles_from g.claim doubles) one
+      behind i one = rw (kind, chain_row) one
 
       module _ (i : ℕ) (one : 1 ≤ i) (below : i < g.nodes) where
         its : DoubleTransition file g i
-        its = keeps.doubled doubles i (behind i one) below
+        its = keeps.doubled (rw (kind, chain_row) refl) i (behind i one) below
 
         -- the record's transition leaves the node by a double edge
         leaves : is_double file g i its.transition ≡ true
@@ -206,100 +192,36 @@ module _ (file : List ℕ) (g : Diagram) (r : Loaded file g) where
         double_leaves : is_double file g i (double_of file g i) ≡ true
         double_leaves = subst (λ (t : ℕ). is_double file g i t ≡ true) double_of_lem leaves
 
-        double_down : (property_of g.claim).rising ≡ false → (j : ℕ) → EdgeFrom file g (double_of file g i) i j → j < i
-        double_down falls j x =
+        double_down : (j : ℕ) → EdgeFrom file g (double_of file g i) i j → j < i
+        double_down j x =
             let d = its.never_single x.number x.there x.from (x.carried ∙ sym double_of_lem) in
             let l = (keeps.edge x.number x.there).down d falls in
             let a = x.from in
             let b = x.to in
             omega (arith, l, a, b)
 
-        other : (t : ℕ) → t < g.transitions → T (not (is_double file g i t)) → t ≢ double_of file g i
-        other t there a e = T_not (is_double file g i t) a (so_true _ (double_is file g r i t there ∙ eq-eqb _ _ e))
-
-        enabled : EnabledAt (system_of file g) (drawn file g) i (double_of file g i)
-        enabled =
-            let t = double_of file g i in
-            enabling_holds file g i t (all (Enabling i t) (enabling_in file g i t (behind i one) below double_there double_leaves))
-
-        range : (t : ℕ) → t < g.transitions → RangeAt (system_of file g) (drawn file g) i t
-        range t ht = range_holds file g i t (all (Range i t) (range_in_lem file g i t (behind i one) below ht))
-
-        stepped : (t : ℕ) → t < g.transitions → Holds file g (Step i t)
-        stepped t ht = all (Step i t) (step_in file g i t (behind i one) below ht)
-
-    -- ---- chain
-    module _ (kind : g.claim ≡ Kind.Chain) where
-      falls : (property_of g.claim).rising ≡ false
-      falls = rw (kind, chain_row) refl
-
-      doubled : (property_of g.claim).doubles ≡ true
-      doubled = rw (kind, chain_row) refl
-
-      chain_step : (i : ℕ) → 1 ≤ i → i < g.nodes → (t : ℕ) → t < g.transitions → ChainStepAt (system_of file g) (drawn file g) i t
-      chain_step i one below t there s s' w y z = go (step_holds i t (stepped doubled i one below t there) s s' w y z)
-        where
-          go : Reached i t s s' → ((t ≢ double_of file g i) × T (node_holds file g i s')) ⊎ Target (system_of file g) (drawn file g) t i s'
-          go (inl (a, b, k)) = inl (other doubled i one below t there a, b)
-          go (inr (j, l, x, b, f)) = inr (j, l, x, b)
+        chain_step : (t : ℕ) → t < g.transitions → Holds file g (Step i t) → ChainStepAt (system_of file g) (drawn file g) i t
+        chain_step t there h s s' w y z = go (step_holds i t h s s' w y z)
+          where
+            go : Reached i t s' → ((t ≢ double_of file g i) × T (node_holds file g i s')) ⊎ Target (system_of file g) (drawn file g) t i s'
+            go (inl (a, b)) = inl (λ e. T_not (is_double file g i t) a (so_true _ (double_is file g r i t there ∙ eq-eqb _ _ e)), b)
+            go (inr x) = inr x
 
       chain_conditions : ChainConditions (system_of file g) (drawn file g) (p_holds file g) (q_holds file g 0)
       chain_conditions =
           record {
             not_up = not_up falls;
-            double_down = λ i j one h x. double_down doubled i one h falls j x;
-            double_transition = double_there doubled;
-            double_just = double_just doubled;
+            double_down = λ i j one h x. double_down i one h j x;
+            double_transition = double_there;
+            double_just = double_just;
             entry = entry_holds file g (all Entry (entry_in file g (rw (kind, chain_row) refl)));
             cover = cover_holds file g 0 (all (Cover 0) (goal_in file g r));
-            range = range doubled;
-            step = chain_step;
-            enabling = enabled doubled;
-          }
-
-    -- ---- ranked chain
-    module _ (kind : g.claim ≡ Kind.RankedChain) where
-      twice : (property_of g.claim).doubles ≡ true
-      twice = rw (kind, ranked_row) refl
-
-      one_rank : (property_of g.claim).ranks ≡ 1
-      one_rank = rw (kind, ranked_row) refl
-
-      -- a step that falls leads to the goal or to a lower rank
-      lower_rank : (i j t : ℕ) (s s' : List ℤ) → falls_to file g i s j s' ≡ true → (j ≡ 0) ⊎ (rank_of file g j s' <ℤ rank_of file g i s)
-      lower_rank i j t s s' f =
-          let some : eqb (property_of g.claim).ranks 0 ≡ false = rw one_rank refl in
-          go (or_cases (eqb j 0) (lower (ranks_of file g j s') (ranks_of file g i s)) (or_other (eqb (property_of g.claim).ranks 0) _ (sym (falls_unless file g i t s s' j) ∙ f) some))
-        where
-          go : (eqb j 0 ≡ true) ⊎ (lower (ranks_of file g j s') (ranks_of file g i s) ≡ true) → (j ≡ 0) ⊎ (rank_of file g j s' <ℤ rank_of file g i s)
-          go (inl e) = inl (eqb-true j 0 e)
-          go (inr e) =
-              inr (lower_one (ranks_of file g j s') (ranks_of file g i s) (ranks_length file g s' j ∙ one_rank) (ranks_length file g s i ∙ one_rank) e)
-
-      ranked_step : (i : ℕ) → 1 ≤ i → i < g.nodes → (t : ℕ) → t < g.transitions
-          → RankedStepAt (system_of file g) (drawn file g) ◌<ℤ◌ (rank_of file g) i t
-      ranked_step i one below t there s s' w w' y z = go (step_holds i t (stepped twice i one below t there) s s' w y z)
-        where
-          go : Reached i t s s' → ((t ≢ double_of file g i) × T (node_holds file g i s') × (rank_of file g i s' ≡ rank_of file g i s))
-              ⊎ LowerTarget (system_of file g) (drawn file g) ◌<ℤ◌ (rank_of file g) t i s s'
-          go (inl (a, b, k)) =
-              inl (other twice i one below t there a, b, ap (λ (l : List ℤ). get_or l 0 (pos 0)) (same_is (ranks_of file g i s') (ranks_of file g i s) k))
-          go (inr (j, l, x, b, f)) = inr (j, l, x, b, lower_rank i j t s s' f)
-
-      ranked_conditions : RankedChainConditions (system_of file g) (drawn file g) (rank_of file g) (p_holds file g) (q_holds file g 0)
-      ranked_conditions =
-          record {
-            conditions = record {
-              double_transition = double_there twice;
-              double_just = double_just twice;
-              entry = entry_holds file g (all Entry (entry_in file g (rw (kind, ranked_row) refl)));
-              cover = cover_holds file g 0 (all (Cover 0) (goal_in file g r));
-              step = ranked_step;
-              enabling = enabled twice;
-            };
-            range = range twice;
-            at_least_0 = λ i one h.
-                rank_holds file g i (all (Rank i 0) (rank_in file g i 0 (behind twice i one) h (rw one_rank (omega arith))));
+            range = λ i one h t ht. range_holds file g i t (all (Range i t) (range_in_lem file g i t (behind i one) h ht));
+            step = λ i one h t ht. chain_step i one h t ht (all (Step i t) (step_in file g i t (behind i one) h ht));
+            enabling = λ i one h.
+                let t = double_of file g i in
+                enabling_holds file g i t
+                (all (Enabling i t) (enabling_in file g i t (behind i one) h (double_there i one h) (double_leaves i one h)));
           }
 
     by_kind : (k : Kind) → g.claim ≡ k → Claimed file g k
@@ -317,11 +239,6 @@ module _ (file : List ℕ) (g : Diagram) (r : Loaded file g) where
         let c = chain_conditions kind in (
           chain (system_of file g) (drawn file g) (p_holds file g) (q_holds file g 0) c,
           chain_in_range (system_of file g) (drawn file g) (p_holds file g) (q_holds file g 0) c,
-        )
-    by_kind Kind.RankedChain kind =
-        let c = ranked_conditions kind in (
-          ranked_chain (system_of file g) (drawn file g) (rank_of file g) (p_holds file g) (q_holds file g 0) c,
-          ranked_chain_in_range (system_of file g) (drawn file g) (rank_of file g) (p_holds file g) (q_holds file g 0) c,
         )
     by_kind Kind.Unknown kind = absurd (false≢true (sym unknown ∙ rw kind at keeps.known))
 

@@ -1,7 +1,7 @@
--- Three small systems, and the files that claim something of them.
+-- Two small systems, and the files that claim something of them.
 --     Case, file, outline, diagram     a claim and its diagram, behind the system's records
---     invariance, wait-for, chain, ranked     the kinds, of one system
---     picking, leaving                 the same claim, of the others
+--     invariance, wait-for, chain      the three kinds, of one system
+--     picking                          the same claim, of the other
 --     claims, refuted, started         a file has one diagram: what it claims is what is claimed with that, true or false; so is its start
 -- Assumes nothing.
 use mathlib.Core.Path.{◌≡◌, subst}
@@ -36,10 +36,6 @@ steps =
 abbrev picks : List (List (List ℕ))
 picks = ((transition 1 ∷ is 1) ++ (pick 0 0 2 ∷ [])) ∷ []
 
--- transition 0, just, guard v = 1: v becomes 2
-abbrev leaves : List (List (List ℕ))
-leaves = ((transition 1 ∷ is 1) ++ (assignment 0 ∷ constant 2 ∷ [])) ∷ []
-
 -- ---- the files
 -- the transitions, the property with its expressions, the nodes' assertions, the edges
 pub record Case : Type 0 where
@@ -56,13 +52,6 @@ wait_for p qs nodes = record { steps = steps; claim = property 2 (length qs) ∷
 
 abbrev pub chain : List (List ℕ) → List (List ℕ) → List (List (List ℕ)) → List (List ℕ) → Case
 chain p q nodes edges = record { steps = steps; claim = property 3 0 ∷ p ++ q; nodes = nodes; edges = edges }
-
--- each node's assertion, and behind it its rank
-abbrev pub ranked : List (List ℕ) → List (List ℕ) → List (List (List ℕ)) → List (List ℕ) → Case
-ranked p q nodes edges = record { steps = steps; claim = property 4 0 ∷ p ++ q; nodes = nodes; edges = edges }
-
-abbrev pub leaving : Case → Case
-leaving c = record { steps = leaves; claim = c.claim; nodes = c.nodes; edges = c.edges }
 
 abbrev pub picking : Case → Case
 picking c = record { steps = picks; claim = c.claim; nodes = c.nodes; edges = c.edges }

@@ -3,20 +3,14 @@
 --     passes-yes      so where it is seen to pass, it does
 -- Assumes nothing.
 use mathlib.Core.Path.{◌≡◌, refl}
-use mathlib.Core.Bool.{Bool, true, false, cond, ◌&&◌}
+use mathlib.Core.Bool.{Bool, true}
 use mathlib.Core.List.{List, [], ◌∷◌}
-use Prim.Native.Nat.{ℕ, suc, ◌+◌, ◌<◌}
+use Prim.Native.Nat.{ℕ, suc, ◌<◌}
 use native.Mathlib.Omega.{arith}
 use native.Mathlib.Nat.{min-le_left}
-use lib.ListN.{length, get_or, take, drop, length-take, length-drop}
-use lib.Seq.{get_or-take, get_or-drop}
-use lib.IntN.{ℤ, pos}
-use Rattle.integers.specs.Inside.{In}
-use Rattle.integers.proofs.Laws.Parts.{ints}
-use Rattle.expressions.proofs.Laws.Sound.{constant_in}
-use Rattle.expressions.proofs.Laws.Numbers.{more_fit}
-use Rattle.domains.specs.Extent.{extent_of}
-use Rattle.expressions.specs.Expression.{holds_of, behind}
+use lib.ListN.{length, get_or, length-take}
+use lib.Seq.{get_or-take}
+use lib.IntN.{ℤ}
 use Rattle.expressions.specs.Fits.{TruthFits}
 use Rattle.evaluating.specs.Step.{enabled_of}
 use Rattle.evaluating.specs.Fits.{TransitionFits}
@@ -26,84 +20,31 @@ use Rattle.states.proofs.Laws.Between.{between_within, within_between}
 use Rattle.truths.proofs.Laws.Truth.{and_asked}
 use Rattle.boxes.specs.declared.Box.{Box}
 use Rattle.boxes.specs.Box.{Inside}
-use Rattle.domains.specs.declared.seen.Seen.{Seen}
-use Rattle.domains.specs.declared.seen.Seen.TheVariants.{Yes, No}
-use Rattle.domains.specs.Seen.{Says, both_of}
-use Rattle.domains.proofs.Laws.Seen.{all_pass_says, both_says, either_says, implies_says, implied_says, yes_says, says_no}
-use Rattle.domains.proofs.Laws.Extent.{at_most_says, extent_in}
-use Rattle.enclosures.specs.Enclosure.{seen_of}
-use Rattle.enclosures.proofs.Laws.Enclosure.{seen_said, extent_inside}
+use Rattle.domains.specs.declared.seen.Seen.TheVariants.{Yes}
+use Rattle.domains.specs.Seen.{Says}
+use Rattle.domains.proofs.Laws.Seen.{all_pass_says, either_says, implies_says, implied_says, yes_says, says_no}
+use Rattle.enclosures.proofs.Laws.Enclosure.{seen_said}
 use Rattle.successors.proofs.Laws.Successor.{guard_said, range_said, enabled_said, successor_inside}
 use Rattle.testing.specs.declared.Conclusion.{Conclusion}
 use Rattle.testing.specs.declared.Test.{Test}
-use Rattle.ranks.specs.Order.{same}
-use Rattle.ranks.proofs.Laws.Compare.{lower_said, same_said}
-use Rattle.testing.proofs.Laws.Testing.{successors_pass, steps_so, leads_fit, rank_fits}
-use Rattle.testing.specs.Testing.{some_passes, some_seen, targets_listed, ranks_behind, compared_behind, lower_at, lower_in, kept_of, kept_in, leads_of}
-use Rattle.testing.specs.Testing.{leads_in, rank_place, concludes_of, concludes_in, passes_of, passes_in, LeadsFit, TestFits}
+use Rattle.testing.proofs.Laws.Testing.{successors_pass, steps_apart}
+use Rattle.testing.specs.Testing.{some_holds, some_in, targets_listed, concludes_of, concludes_in, passes_of, passes_in, TestFits}
 
 -- ---- one of several truths
-some_said : (seen : ℕ → Seen) (passes : ℕ → Bool) (places : List ℕ)
-    → ((i : ℕ) → i < length places → Says (seen (get_or places i 0)) (passes (get_or places i 0))) → Says (some_seen seen places) (some_passes passes places)
-unfolding some_seen some_passes
-some_said seen passes [] f = says_no refl
-some_said seen passes (at ∷ places) f =
-    either_says _ _ _ _ (f 0 (omega arith)) (some_said seen passes places (λ i l. f (suc i) (omega arith)))
-
--- ---- places of a list, from one on and up to another
-taken_at : (places : List ℕ) (n i : ℕ) → i < length (take n places) → (i < n) × (get_or (take n places) i 0 ≡ get_or places i 0)
-taken_at places n i l =
-    let m : i < n = omega (arith, length-take n places, min-le_left n (length places)) in
-    (m, get_or-take n places i 0 m)
-
--- ---- where a step leads
-module _ (file : List ℕ) (test : Test) {from to : Box} {state next : List ℤ} (w : Inside from state) (v : Inside to next)
-    (fits : LeadsFit file test state next) where
-  lower_concluded : (i : ℕ) → i < test.count
-      → Says (lower_in file test from to (get_or test.targets i 0)) (lower_at file test state next (get_or test.targets i 0))
-  unfolding lower_in lower_at
-  lower_concluded i l =
-      let at = get_or test.targets i 0 in
-      both_says _ _ _ _ (seen_said v file at (fits.targets i l))
-      (lower_said file v w test.ranks (behind file at) (behind file test.premise) (fits.theirs i l) fits.own)
-
-  kept_concluded : Says (kept_in file test from to) (kept_of file test state next)
-  unfolding kept_in kept_of
-  kept_concluded = by test.keep
-    where
-      own : Says (both_of (seen_of file test.premise to) (compared_behind file test from to test.premise).same)
-          (holds_of file test.premise next && same (ranks_behind file test test.premise next) (ranks_behind file test test.premise state))
-      own =
-          both_says _ _ _ _ (seen_said v file test.premise fits.again)
-          (same_said file v w test.ranks (behind file test.premise) (behind file test.premise) fits.own_again fits.own)
-
-      by : (b : Bool) → Says (cond b (both_of (seen_of file test.premise to) (compared_behind file test from to test.premise).same) No)
-          (b && (holds_of file test.premise next && same (ranks_behind file test test.premise next) (ranks_behind file test test.premise state)))
-      by true = own
-      by false = says_no refl
-
-  leads_concluded : Says (leads_in file test from to) (leads_of file test state next)
-  unfolding leads_in leads_of
-  leads_concluded =
-      either_says _ _ _ _
-      (some_said (λ at. seen_of file at to) (λ at. holds_of file at next) (take test.free test.targets)
-      (λ i l. let t = taken_at test.targets test.free i l in rw t.1 (seen_said v file _ (fits.targets i (omega (arith, t.0, fits.free))))))
-      (either_says _ _ _ _
-      (some_said (lower_in file test from to) (lower_at file test state next) (drop test.free (targets_listed test))
-      (λ i l.
-      let t = taken_at test.targets test.count (test.free + i) (omega (arith, length-drop test.free (targets_listed test))) in
-      rw (get_or-drop test.free (targets_listed test) i 0, t.1) (lower_concluded (test.free + i) t.0)))
-      kept_concluded)
-
--- 0 lies in its own extent
-zero_in : In (pos 0) (extent_of (pos 0) (pos 0) 12).span
-zero_in = extent_in _ _ _ (record { above = omega ints; below = omega ints }) (constant_in (pos 0))
+some_said : (file : List ℕ) {b : Box} {state : List ℤ} → Inside b state → (places : List ℕ)
+    → ((i : ℕ) → i < length places → TruthFits file (get_or places i 0) state) → Says (some_in file places b) (some_holds file places state)
+unfolding some_in some_holds
+some_said file w [] f = says_no refl
+some_said file w (at ∷ places) f =
+    either_says _ _ _ _ (seen_said w file at (f 0 (omega arith))) (some_said file w places (λ i l. f (suc i) (omega arith)))
 
 -- ---- a test
 module _ (file : List ℕ) (ranges : Box) (test : Test) (fits : TestFits ranges.low ranges.high file test) where
   targets_fit : {state : List ℤ} → Inside ranges state
       → (i : ℕ) → i < length (targets_listed test) → TruthFits file (get_or (targets_listed test) i 0) state
-  targets_fit w i l = let t = taken_at test.targets test.count i l in rw t.1 (fits.targets i t.0 _ w)
+  targets_fit w i l =
+      let m : i < test.count = omega (arith, length-take test.count test.targets, min-le_left test.count (length test.targets)) in
+      rw (get_or-take test.count test.targets i 0 m) (fits.targets i m _ w)
 
   module _ {b : Box} {state : List ℤ} (inside : Inside b state) (w : Inside ranges state) where
     abbrev enabled : Bool
@@ -125,13 +66,13 @@ module _ (file : List ℕ) (ranges : Box) (test : Test) (fits : TestFits ranges.
       reached_concluded =
           let at = test.transition in
           let some = ends_ranges file at state w h in
-          rw (successors_pass ranges.low ranges.high file at state (leads_of file test state))
+          rw (successors_pass ranges.low ranges.high file at state (some_holds file (targets_listed test)))
           (implies_says _ _ _ _ (enabled_said ranges file inside at h)
-          (λ e. all_pass_says _ (leads_of file test state) _ _ (within_between (ranges_low some))
+          (λ e. all_pass_says _ (some_holds file (targets_listed test)) _ _ (within_between (ranges_low some))
           (λ next m.
           let between = between_within some m in
-          leads_concluded file test inside (successor_inside ranges file inside at h e between)
-          (leads_fit fits w (between_state ranges.low ranges.high file at state e w between)))))
+          some_said file (successor_inside ranges file inside at h e between) (targets_listed test)
+          (targets_fit (between_state ranges.low ranges.high file at state e w between)))))
 
       enabling_concluded : Says (concludes_in ranges file test Conclusion.Enabled b)
           (concludes_of ranges.low ranges.high file test Conclusion.Enabled state)
@@ -141,14 +82,10 @@ module _ (file : List ℕ) (ranges : Box) (test : Test) (fits : TestFits ranges.
     concluded : (c : Conclusion) → test.conclusion ≡ c
         → Says (concludes_in ranges file test c b) (concludes_of ranges.low ranges.high file test c state)
     unfolding concludes_in concludes_of
-    concluded Conclusion.SomeTarget e =
-        some_said (λ at. seen_of file at b) (λ at. holds_of file at state) (targets_listed test) (λ i l. seen_said inside file _ (targets_fit w i l))
-    concluded Conclusion.NotNegative e =
-        at_most_says _ _ _ _ zero_in
-        (extent_inside inside file (rank_place file test) (more_fit file _ state 0 (rank_fits fits w (fits.some e))).0)
-    concluded Conclusion.ValuesInRange e = range_concluded (fits.transition (steps_so e refl) state w)
-    concluded Conclusion.Reached e = reached_concluded (fits.transition (steps_so e refl) state w)
-    concluded Conclusion.Enabled e = enabling_concluded (fits.transition (steps_so e refl) state w)
+    concluded Conclusion.SomeTarget e = some_said file inside (targets_listed test) (targets_fit w)
+    concluded Conclusion.ValuesInRange e = range_concluded (fits.transition (steps_apart e refl) state w)
+    concluded Conclusion.Reached e = reached_concluded (fits.transition (steps_apart e refl) state w)
+    concluded Conclusion.Enabled e = enabling_concluded (fits.transition (steps_apart e refl) state w)
 
     pub passes_said : Says (passes_in ranges file test b) (passes_of ranges.low ranges.high file test state)
     unfolding passes_in passes_of

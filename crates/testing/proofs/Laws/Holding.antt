@@ -1,33 +1,25 @@
 -- What a condition says, by its kind, and where one of several nodes holds.
 --     start-says, entry-says, cover-says, range-says, step-says, enabling-says     each kind of condition (C8.7 to C8.11, C8.13)
---     rank-says        and that of a rank (C8.17)
---     leads-either     a step leads to the node itself, unless by double edges, or to a target (C8.11, C8.12, C8.18)
---     keeps-both       the node itself is kept with the ranks that it had (C8.18)
---     falls-unless     a step falls where nodes have no ranks, at the goal, or by lower ranks (C8.18)
+--     leads-either     a step leads to the node itself, unless by double edges, or to a target (C8.11, C8.12)
 --     node-some        where some node holds, there is one
---     target-some      where some target does, there is an edge to one, and the step there falls
+--     target-some      where some target does, there is an edge to one
 -- Assumes nothing.
 use mathlib.Core.Path.{◌≡◌, refl, subst}
-use mathlib.Core.Bool.{Bool, true, not, ◌&&◌, ◌||◌, and-eq-true_iff}
+use mathlib.Core.Bool.{true, not, ◌&&◌, ◌||◌, and-eq-true_iff}
 use mathlib.Core.List.{List}
 use Prim.Native.Nat.{ℕ, ◌<◌}
 use native.Mathlib.Nat.{zero-add}
-use lib.Dec.{eqb}
-use lib.ListN.{get_or}
-use lib.IntN.{ℤ, pos}
-use lib.Signed.{le_z}
-use Rattle.shapes.specs.Property.{property_of}
+use lib.IntN.{ℤ}
 use Rattle.truths.specs.Truth.{implies}
 use Rattle.truths.specs.Listed.{all_pass}
 use Rattle.truths.proofs.Laws.Any.{any_some}
 use Rattle.diagrams.specs.declared.Diagram.{Diagram}
 use Rattle.diagrams.specs.Diagram.{edge_of}
-use Rattle.diagrams.specs.Truth.{start_holds, node_holds, ranks_of, p_holds, q_holds}
+use Rattle.diagrams.specs.Truth.{start_holds, node_holds, p_holds, q_holds}
 use Rattle.diagrams.specs.System.{guard_holds, values_fit, is_enabled, next_states}
-use Rattle.ranks.specs.Order.{lower, same}
 use Rattle.conditions.specs.Edges.{carries, is_double}
-use Rattle.conditions.specs.declared.Condition.TheVariants.{Start, Entry, Cover, Rank, Range, Step, Enabling}
-use Rattle.testing.specs.Holding.{some_node, falls_to, some_target, keeps_node, step_leads, condition_holds}
+use Rattle.conditions.specs.declared.Condition.TheVariants.{Start, Entry, Cover, Range, Step, Enabling}
+use Rattle.testing.specs.Holding.{some_node, some_target, step_leads, condition_holds}
 
 module _ (file : List ℕ) (g : Diagram) (s : List ℤ) where
   pub start_says : condition_holds file g Start s ≡ implies (start_holds file g s) (some_node file g s)
@@ -42,17 +34,12 @@ module _ (file : List ℕ) (g : Diagram) (s : List ℤ) where
   unfolding condition_holds
   cover_says n = refl
 
-  pub rank_says : (n i : ℕ)
-      → condition_holds file g (Rank n i) s ≡ implies (node_holds file g n s) (le_z (pos 0) (get_or (ranks_of file g n s) i (pos 0)))
-  unfolding condition_holds
-  rank_says n i = refl
-
   module _ (n t : ℕ) where
     pub range_says : condition_holds file g (Range n t) s ≡ implies (node_holds file g n s && guard_holds file g t s) (values_fit file g t s)
     unfolding condition_holds
     range_says = refl
 
-    pub step_says : condition_holds file g (Step n t) s ≡ implies (node_holds file g n s) (all_pass (step_leads file g n t s) (next_states file g t s))
+    pub step_says : condition_holds file g (Step n t) s ≡ implies (node_holds file g n s) (all_pass (step_leads file g n t) (next_states file g t s))
     unfolding condition_holds
     step_says = refl
 
@@ -66,33 +53,17 @@ module _ (file : List ℕ) (g : Diagram) (s : List ℤ) where
       let x = any_some (λ n. node_holds file g n s) g.nodes 0 e in
       (x.which, x.below, subst (λ (n : ℕ). node_holds file g n s ≡ true) (zero-add x.which) x.passes)
 
-module _ (file : List ℕ) (g : Diagram) (n t : ℕ) (s next : List ℤ) where
-  pub leads_either : step_leads file g n t s next ≡ ((not (is_double file g n t) && keeps_node file g n s next) || some_target file g n t s next)
+module _ (file : List ℕ) (g : Diagram) (n t : ℕ) (s : List ℤ) where
+  pub leads_either : step_leads file g n t s ≡ ((not (is_double file g n t) && node_holds file g n s) || some_target file g n t s)
   unfolding step_leads
   leads_either = refl
 
-  pub keeps_both : keeps_node file g n s next ≡ (node_holds file g n next && same (ranks_of file g n next) (ranks_of file g n s))
-  unfolding keeps_node
-  keeps_both = refl
-
-  pub falls_unless : (j : ℕ)
-      → falls_to file g n s j next ≡ (eqb (property_of g.claim).ranks 0 || (eqb j 0 || lower (ranks_of file g j next) (ranks_of file g n s)))
-  unfolding falls_to
-  falls_unless j = refl
-
-  -- what is asked of an edge's target
-  abbrev reached : ℕ → Bool
-  reached j = node_holds file g j next && falls_to file g n s j next
-
-  pub target_some : some_target file g n t s next ≡ true
-      → (e : ℕ) × (e < g.edges) × (carries n t (edge_of file g e) ≡ true) × (node_holds file g (edge_of file g e).to next ≡ true)
-      × (falls_to file g n s (edge_of file g e).to next ≡ true)
+  pub target_some : some_target file g n t s ≡ true
+      → (e : ℕ) × (e < g.edges) × (carries n t (edge_of file g e) ≡ true) × (node_holds file g (edge_of file g e).to s ≡ true)
   unfolding some_target
   target_some y =
-      let x = any_some (λ e. carries n t (edge_of file g e) && reached (edge_of file g e).to) g.edges 0 y in
+      let x = any_some (λ e. carries n t (edge_of file g e) && node_holds file g (edge_of file g e).to s) g.edges 0 y in
       let e = x.which in
-      let j = (edge_of file g e).to in
-      let p = (and-eq-true_iff (carries n t (edge_of file g e)) (reached j)).0
-      (subst (λ (i : ℕ). (carries n t (edge_of file g i) && reached (edge_of file g i).to) ≡ true) (zero-add e) x.passes) in
-      let q = (and-eq-true_iff (node_holds file g j next) (falls_to file g n s j next)).0 p.1 in
-      (e, x.below, p.0, q.0, q.1)
+      let p = (and-eq-true_iff (carries n t (edge_of file g e)) (node_holds file g (edge_of file g e).to s)).0
+      (subst (λ (i : ℕ). (carries n t (edge_of file g i) && node_holds file g (edge_of file g i).to s) ≡ true) (zero-add e) x.passes) in
+      (e, x.below, p.0, p.1)

@@ -1,14 +1,14 @@
 -- Laws of the targets of a condition.
 --     chosen_last, chosen-most, chosen-each     the places chosen: one node more, how many they are, what is true of each
---     some-chosen, some-none, some-only         one of the places chosen passes where a marked node does; of no place, of one
+--     some-chosen                               one of the places chosen holds where a marked node does
 --     marked-some                               a marked node holds where the node that may be kept does, or a target of an edge carried
---     some-node, some-reached, some-met         one of the places that a test has holds where one of the nodes that its condition names does
+--     some-node, some-reached                   one of the places that a test has holds where one of the nodes that its condition names does
 -- Assumes nothing.
 use mathlib.Core.Path.{◌≡◌, refl, sym, ap, ap₂, ◌∙◌}
 use mathlib.Core.Logic.{⊎_elim}
-use mathlib.Core.Bool.{Bool, true, false, cond, ◌&&◌, ◌||◌, or-false, and-eq-true_iff}
+use mathlib.Core.Bool.{Bool, true, false, cond, ◌&&◌, ◌||◌, and-eq-true_iff}
 use mathlib.Core.List.{List, [], ◌∷◌, ◌++◌}
-use Prim.Native.Nat.{ℕ, zero, suc, ◌+◌, ◌-◌, ◌≤◌, ◌<◌}
+use Prim.Native.Nat.{ℕ, zero, suc, ◌+◌, ◌≤◌, ◌<◌}
 use native.Mathlib.Omega.{arith}
 use borrow.Author.Tests.{eq-eqb, eqb-true}
 use lib.ListN.{length, get_or, replicate, get_or-replicate}
@@ -25,8 +25,8 @@ use Rattle.diagrams.specs.Truth.{node_holds}
 use Rattle.diagrams.proofs.Laws.Diagram.{promised}
 use Rattle.diagrams.proofs.Laws.Truth.{node_at}
 use Rattle.conditions.specs.Edges.{carries}
-use Rattle.testing.specs.Holding.{some_node}
-use Rattle.testing.specs.Testing.{marks_of, chosen_from, some_passes, some_holds}
+use Rattle.testing.specs.Holding.{some_node, some_target}
+use Rattle.testing.specs.Testing.{marks_of, chosen_from, some_holds}
 
 -- ---- the places chosen
 module _ (marks : List Bool) (nodes : List ℕ) where
@@ -67,28 +67,20 @@ module _ (marks : List Bool) (nodes : List ℕ) where
         go true x m (suc i) l p h = h i (omega arith)
         go false x m i l p h = h i l
 
--- ---- one of them passes
-module _ (passes : ℕ → Bool) where
-  some_one : (b : Bool) (x : ℕ) (l : List ℕ) (rest : Bool) → some_passes passes l ≡ rest → some_passes passes (cond b (x ∷ l) l) ≡ ((b && passes x) || rest)
-  unfolding some_passes
-  some_one true x l rest e = ap (λ (r : Bool). passes x || r) e
+module _ (file : List ℕ) (state : List ℤ) where
+  some_one : (b : Bool) (x : ℕ) (l : List ℕ) (rest : Bool) → some_holds file l state ≡ rest
+      → some_holds file (cond b (x ∷ l) l) state ≡ ((b && holds_of file x state) || rest)
+  unfolding some_holds
+  some_one true x l rest e = ap (λ (r : Bool). holds_of file x state || r) e
   some_one false x l rest e = e
 
   pub some_chosen : (marks : List Bool) (nodes : List ℕ) (n at : ℕ)
-      → some_passes passes (chosen_from marks nodes n at) ≡ any (λ j. get_or marks j false && passes (get_or nodes j 0)) n at
-  unfolding chosen_from some_passes
+      → some_holds file (chosen_from marks nodes n at) state ≡ any (λ j. get_or marks j false && holds_of file (get_or nodes j 0) state) n at
+  unfolding chosen_from some_holds
   some_chosen marks nodes zero at = sym (any_none _ 0 at (omega arith))
   some_chosen marks nodes (suc n) at =
       some_one (get_or marks at false) (get_or nodes at 0) (chosen_from marks nodes n (at + 1)) _ (some_chosen marks nodes n (at + 1))
-      ∙ sym (any_first (λ j. get_or marks j false && passes (get_or nodes j 0)) n at)
-
-  pub some_none : some_passes passes [] ≡ false
-  unfolding some_passes
-  some_none = refl
-
-  pub some_only : (x : ℕ) → some_passes passes (x ∷ []) ≡ passes x
-  unfolding some_passes
-  some_only x = or-false (passes x)
+      ∙ sym (any_first (λ j. get_or marks j false && holds_of file (get_or nodes j 0) state) n at)
 
 -- ---- the nodes marked
 module _ (keep : Bool) (n edges edge : ℕ) (carried : ℕ → Bool) (to : ℕ → ℕ) where
@@ -155,73 +147,46 @@ module _ (keep : Bool) (n edges edge : ℕ) (carried : ℕ → Bool) (to : ℕ �
           (λ e. ⊎_elim stays goes (or_cases (keep && holds n) target_holds e))
 
 -- ---- the places that a test has
-module _ (file : List ℕ) (g : Diagram) (r : Loaded file g) where
+module _ (file : List ℕ) (g : Diagram) (r : Loaded file g) (state : List ℤ) where
   few : g.nodes ≤ 32
   few = (promised file g r).nodes.1
 
-  every : (holds : ℕ → Bool) (j : ℕ) → j < g.nodes → (get_or (replicate 32 true) j false && holds j) ≡ holds j
-  every holds j l = let m = few in ap (λ (b : Bool). b && holds j) (get_or-replicate {A = Bool} 32 j true false (omega arith))
+  -- the assertion of node j, where the table has it
+  abbrev listed_holds : ℕ → Bool
+  listed_holds j = holds_of file (get_or g.assertions j 0) state
 
-  pub some_node_lem : (state : List ℤ)
-      → some_holds file (chosen_from (replicate 32 true) g.assertions g.nodes 0) state ≡ some_node file g state
+  every : (j : ℕ) → j < g.nodes → (get_or (replicate 32 true) j false && listed_holds j) ≡ node_holds file g j state
+  every j l =
+      let m = few in
+      ap (λ (b : Bool). b && listed_holds j) (get_or-replicate {A = Bool} 32 j true false (omega arith)) ∙ sym (node_at file g state j)
+
+  pub some_node_lem : some_holds file (chosen_from (replicate 32 true) g.assertions g.nodes 0) state ≡ some_node file g state
   unfolding some_node
-  some_node_lem state =
-      some_chosen (λ at. holds_of file at state) (replicate 32 true) g.assertions g.nodes 0
-      ∙ any_same (λ j. get_or (replicate 32 true) j false && holds_of file (get_or g.assertions j 0) state) (λ j. node_holds file g j state) g.nodes 0
-      (λ i l. every (λ j. holds_of file (get_or g.assertions j 0) state) (0 + i) (omega arith) ∙ sym (node_at file g state (0 + i)))
+  some_node_lem =
+      some_chosen file state (replicate 32 true) g.assertions g.nodes 0
+      ∙ any_same (λ j. get_or (replicate 32 true) j false && listed_holds j) (λ j. node_holds file g j state) g.nodes 0
+      (λ i l. every (0 + i) (omega arith))
 
   module _ (n t : ℕ) (keep : Bool) where
-    abbrev marks : List Bool
-    marks = marks_of file g n t keep
-
     abbrev marked : ℕ → Bool
     marked = is_marked keep n g.edges 0 (λ e. carries n t (edge_of file g e)) (λ e. (edge_of file g e).to)
 
-    marked_at : (j : ℕ) → j < 32 → get_or marks j false ≡ marked j
+    marked_at : (j : ℕ) → j < 32 → get_or (marks_of file g n t keep) j false ≡ marked j
     unfolding marks_of
     marked_at j l = tabulate_at marked false 32 j l
+
+    marked_holds : (j : ℕ) → j < g.nodes → (get_or (marks_of file g n t keep) j false && listed_holds j) ≡ (marked j && node_holds file g j state)
+    marked_holds j l = let m = few in ap₂ ◌&&◌ (marked_at j (omega arith)) (sym (node_at file g state j))
 
     target_there : (e : ℕ) → e < g.edges → (edge_of file g (0 + e)).to < g.nodes
     target_there e k = let z : 0 + e ≡ e = omega arith in rw z ((promised file g r).edge e k).to
 
-    -- a marked node that holds is the node itself, where it may be kept, or an edge's target
-    marks_some : n < g.nodes → (holds : ℕ → Bool) → any (λ j. get_or marks j false && holds j) g.nodes 0
-        ≡ ((keep && holds n) || any (λ e. carries n t (edge_of file g e) && holds (edge_of file g e).to) g.edges 0)
-    marks_some l holds =
-        any_same (λ j. get_or marks j false && holds j) (λ j. marked j && holds j) g.nodes 0
-        (λ i m. let few = few in ap (λ (b : Bool). b && holds (0 + i)) (marked_at (0 + i) (omega arith)))
-        ∙ marked_some keep n g.edges 0 (λ e. carries n t (edge_of file g e)) (λ e. (edge_of file g e).to) holds g.nodes l target_there
-
-  -- without ranks
-  pub some_reached : (n t : ℕ) (keep : Bool) (next : List ℤ) → n < g.nodes
-      → some_holds file (chosen_from (marks_of file g n t keep) g.assertions g.nodes 0) next
-      ≡ ((keep && node_holds file g n next)
-      || any (λ e. carries n t (edge_of file g e) && node_holds file g (edge_of file g e).to next) g.edges 0)
-  some_reached n t keep next l =
-      some_chosen (λ at. holds_of file at next) (marks_of file g n t keep) g.assertions g.nodes 0
-      ∙ any_same (λ j. get_or (marks_of file g n t keep) j false && holds_of file (get_or g.assertions j 0) next)
-      (λ j. get_or (marks_of file g n t keep) j false && node_holds file g j next) g.nodes 0
-      (λ i m. ap (λ (b : Bool). get_or (marks_of file g n t keep) (0 + i) false && b) (sym (node_at file g next (0 + i))))
-      ∙ marks_some n t keep l (λ j. node_holds file g j next)
-
-  -- with ranks: the goal is looked at by itself, the others for what `passes` asks of them
-  module _ (n t : ℕ) (l : n < g.nodes) (passes : ℕ → Bool) (holds goal : ℕ → Bool) where
-    abbrev first : Bool
-    first = get_or (marks_of file g n t false) 0 false
-
-    abbrev others : List ℕ
-    others = chosen_from (marks_of file g n t false) g.assertions (g.nodes - 1) 1
-
-    pub some_met : goal (get_or g.assertions 0 0) ≡ holds 0 → ((j : ℕ) → 0 < j → j < g.nodes → passes (get_or g.assertions j 0) ≡ holds j)
-        → ((first && goal (get_or g.assertions 0 0)) || some_passes passes others)
-        ≡ any (λ e. carries n t (edge_of file g e) && holds (edge_of file g e).to) g.edges 0
-    some_met at_goal beyond =
-        let marks = marks_of file g n t false in
-        let some : g.nodes ≡ suc (g.nodes - 1) = omega (arith, l) in
-        ap₂ ◌||◌ (ap (λ (b : Bool). first && b) at_goal)
-        (some_chosen passes marks g.assertions (g.nodes - 1) 1
-        ∙ any_same (λ j. get_or marks j false && passes (get_or g.assertions j 0)) (λ j. get_or marks j false && holds j) (g.nodes - 1) 1
-        (λ i m. ap (λ (b : Bool). get_or marks (1 + i) false && b) (beyond (1 + i) (omega arith) (omega arith))))
-        ∙ sym (any_first (λ j. get_or marks j false && holds j) (g.nodes - 1) 0)
-        ∙ ap (λ (k : ℕ). any (λ j. get_or marks j false && holds j) k 0) (sym some)
-        ∙ marks_some n t false l holds
+    pub some_reached : n < g.nodes → some_holds file (chosen_from (marks_of file g n t keep) g.assertions g.nodes 0) state
+        ≡ ((keep && node_holds file g n state) || some_target file g n t state)
+    unfolding some_target
+    some_reached l =
+        some_chosen file state (marks_of file g n t keep) g.assertions g.nodes 0
+        ∙ any_same (λ j. get_or (marks_of file g n t keep) j false && listed_holds j) (λ j. marked j && node_holds file g j state) g.nodes 0
+        (λ i m. marked_holds (0 + i) (omega arith))
+        ∙ marked_some keep n g.edges 0 (λ e. carries n t (edge_of file g e)) (λ e. (edge_of file g e).to) (λ j. node_holds file g j state) g.nodes l
+        target_there

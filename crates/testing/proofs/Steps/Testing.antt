@@ -1,30 +1,24 @@
 -- The places chosen and the truths tried, one after the other; and a test, by what its step says, of a state and of a box.
 -- Assumes nothing.
 use mathlib.Core.Path.{◌≡◌, refl, sym, ap, subst, ◌∙◌}
-use mathlib.Core.Bool.{Bool, true, false, not, cond, ◌&&◌, ◌||◌}
+use mathlib.Core.Bool.{Bool, true, false, not, cond, ◌||◌}
 use mathlib.Core.List.{List, [], ◌∷◌, ◌++◌, append-nil, append_assoc}
 use Prim.Native.Nat.{ℕ, suc, ◌+◌, ◌-◌, ◌≤◌, ◌<◌}
 use native.Mathlib.Numerals.{add-one}
 use native.Mathlib.Omega.{arith}
 use lib.ListN.{length, get_or, set, take, drop, replicate, length-append, drop_of_length-le}
 use lib.Seq.{set_at, drop-cons, get_or-take, length-take-le}
-use borrow.Author.Tests.{eq-eqb, ne_eqb}
 use lib.Dec.{eqb}
-use lib.IntN.{ℤ, pos}
-use lib.Signed.{le_z}
-use Rattle.shapes.specs.declared.Claim.{Claim}
-use Rattle.shapes.specs.Property.{property_of}
-use Rattle.shapes.proofs.Laws.Property.{ranks_most}
-use mathlib.Core.Logic.{⊎_elim}
+use lib.IntN.{ℤ}
 use Rattle.diagrams.specs.declared.Diagram.{Diagram}
 use Rattle.diagrams.specs.Diagram.{Loaded, edge_of}
 use Rattle.evaluating.specs.declared.Stepped.{Stepped}
-use Rattle.expressions.specs.Expression.{holds_of, value_of, behind}
-use Rattle.expressions.specs.Fits.{NumbersFit, TruthFits}
+use Rattle.expressions.specs.Expression.{holds_of}
+use Rattle.expressions.specs.Fits.{TruthFits}
 use Rattle.evaluating.specs.Step.{guard_of, enabled_of, step_of}
 use Rattle.evaluating.specs.Fits.{TransitionFits}
 use Rattle.conditions.specs.declared.Condition.{Condition}
-use Rattle.conditions.specs.declared.Condition.TheVariants.{Start, Entry, Cover, Rank, Range, Step, Enabling}
+use Rattle.conditions.specs.declared.Condition.TheVariants.{Start, Entry, Cover, Range, Step, Enabling}
 use Rattle.testing.specs.declared.Conclusion.{Conclusion}
 use Rattle.testing.specs.declared.Targets.{Targets}
 use Rattle.testing.specs.declared.Test.{Test}
@@ -35,9 +29,8 @@ use Rattle.diagrams.specs.Promise.{Promise}
 use Rattle.diagrams.proofs.Laws.Diagram.{promised}
 use Rattle.conditions.specs.Condition.{Listed}
 use Rattle.truths.proofs.Laws.Truth.{implies_true, implies_false, implies_or}
-use Rattle.testing.specs.Testing.{marks_of, chosen_from, targets_of, chosen_of, prepared_of, ranked_of, step_test, test_of}
-use Rattle.testing.specs.Testing.{some_passes, some_seen, some_holds, some_in, targets_listed, ranks_behind, compared_behind, lower_at, lower_in, kept_of, kept_in}
-use Rattle.testing.specs.Testing.{leads_of, leads_in, rank_place, concludes_of, concludes_in, passes_in, steps, LeadsFit, TestFits}
+use Rattle.testing.specs.Testing.{marks_of, chosen_from, targets_of, chosen_of, prepared_of, test_of}
+use Rattle.testing.specs.Testing.{some_holds, some_in, targets_listed, concludes_of, concludes_in, passes_in, TestFits}
 use Rattle.conditions.specs.Layout.{double_of}
 use Rattle.conditions.proofs.Laws.Condition.{Parts, listed_parts}
 use Rattle.conditions.proofs.Laws.Double.{double_is}
@@ -45,7 +38,7 @@ use Rattle.testing.proofs.Laws.Targets.{chosen_last, chosen_most}
 use Rattle.evaluating.proofs.Laws.Step.{ends_ranges, between_state, step_guard, step_enabled, step_low, step_high}
 use Rattle.shapes.specs.declared.Edge.{Edge}
 use Rattle.testing.proofs.Laws.Marks.{eqb_swap, Marked, marked_hit, marked_miss}
-use Rattle.testing.proofs.Laws.Testing.{successors_pass, steps_so, leads_fit, rank_fits}
+use Rattle.testing.proofs.Laws.Testing.{successors_pass, steps, steps_apart}
 use Rattle.truths.specs.Listed.{all_pass}
 use Rattle.states.specs.State.{Within}
 use Rattle.states.specs.Ranges.{Ranges}
@@ -54,17 +47,10 @@ use Rattle.boxes.specs.declared.Box.{Box}
 use Rattle.boxes.specs.Box.{Inside, Part}
 use Rattle.boxes.proofs.Laws.Half.{part_inside, low_inside}
 use Rattle.domains.specs.declared.seen.Seen.{Seen}
-use Rattle.domains.specs.declared.seen.Seen.TheVariants.{Yes, No}
-use Rattle.domains.specs.declared.extents.Extent.{Extent}
-use Rattle.domains.specs.Extent.{extent_of, at_most_in}
+use Rattle.domains.specs.declared.seen.Seen.TheVariants.{Yes}
 use Rattle.domains.specs.Seen.{both_of, either_of, implies_in, implied_in, sure_of, never_of}
 use Rattle.domains.proofs.Laws.Seen.{either_none, either_assoc, never_implies, never_implied, sure_either}
-use Rattle.enclosures.specs.Enclosure.{seen_of, extent_at}
-use Rattle.ranks.specs.declared.Compared.{Compared}
-use Rattle.ranks.specs.declared.ComparedIn.{ComparedIn}
-use Rattle.ranks.specs.Order.{lower, same}
-use Rattle.ranks.specs.Compare.{compared_of}
-use Rattle.ranks.proofs.Laws.Order.{compared_lower, compared_same}
+use Rattle.enclosures.specs.Enclosure.{seen_of}
 use Rattle.successors.specs.declared.Moved.{Moved}
 use Rattle.successors.specs.Successor.{move_of}
 use Rattle.successors.proofs.Laws.Successor.{to_low}
@@ -140,8 +126,8 @@ module _ (file : List ℕ) (g : Diagram) (r : Loaded file g) (node transition : 
       pub mark_miss : c ≡ false → MarkedBy marks (e + 1)
       mark_miss t = marked_miss 32 keep node g.edges 0 _ _ k l (carried t)
 
--- ---- the places tried: the first `count` of them; place i is next
-module _ (places : List ℕ) (count i : ℕ) (enough : count ≤ length places) where
+-- ---- the truths tried: the first `count` of the places; place i is next
+module _ (file places : List ℕ) (count i : ℕ) (enough : count ≤ length places) where
   no_place : count ≤ i → drop i (take count places) ≡ []
   no_place h = drop_of_length-le (take count places) {i = i} (rw (length-take-le count places enough) h)
 
@@ -150,99 +136,33 @@ module _ (places : List ℕ) (count i : ℕ) (enough : count ≤ length places) 
       rw (add-one, ← (get_or-take count places i 0 below)) (drop-cons (take count places) i 0 (rw (length-take-le count places enough) below))
 
   -- at a state
-  module _ (passes : ℕ → Bool) where
-    pub some_end : count ≤ i → some_passes passes (drop i (take count places)) ≡ false
-    unfolding some_passes
+  module _ (state : List ℤ) where
+    pub some_end : count ≤ i → some_holds file (drop i (take count places)) state ≡ false
+    unfolding some_holds
     some_end h = rw (no_place h)
 
-    pub some_here : i < count → passes (get_or places i 0) ≡ true → some_passes passes (drop i (take count places)) ≡ true
-    unfolding some_passes
+    pub some_here : i < count → holds_of file (get_or places i 0) state ≡ true → some_holds file (drop i (take count places)) state ≡ true
+    unfolding some_holds
     some_here below t = rw (next_place below, t)
 
-    pub some_later : i < count → passes (get_or places i 0) ≡ false
-        → some_passes passes (drop i (take count places)) ≡ some_passes passes (drop (i + 1) (take count places))
-    unfolding some_passes
-    some_later below t = ap (some_passes passes) (next_place below) ∙ rw t
+    pub some_later : i < count → holds_of file (get_or places i 0) state ≡ false
+        → some_holds file (drop i (take count places)) state ≡ some_holds file (drop (i + 1) (take count places)) state
+    unfolding some_holds
+    some_later below t = ap (λ (l : List ℕ). some_holds file l state) (next_place below) ∙ rw t
 
-  -- on a box, where p is seen of the places before, and `all` of all
-  module _ (seen : ℕ → Seen) (all p : Seen) (so_far : either_of p (some_seen seen (drop i (take count places))) ≡ all) where
-    pub in_end : count ≤ i → p ≡ all
-    unfolding some_seen
+  -- on a box, where p is seen of the places before
+  module _ (b : Box) (p : Seen) (so_far : either_of p (some_in file (drop i (take count places)) b) ≡ some_in file (take count places) b) where
+    pub in_end : count ≤ i → p ≡ some_in file (take count places) b
+    unfolding some_in
     in_end h = sym (either_none p) ∙ rw (no_place h) at so_far
 
-    module _ (below : i < count) {here q : Seen} (h : here ≡ seen (get_or places i 0)) (is : q ≡ either_of p here) where
-      pub in_later : either_of q (some_seen seen (drop (i + 1) (take count places))) ≡ all
-      unfolding some_seen
+    module _ (below : i < count) {here q : Seen} (h : here ≡ seen_of file (get_or places i 0) b) (is : q ≡ either_of p here) where
+      pub in_later : either_of q (some_in file (drop (i + 1) (take count places)) b) ≡ some_in file (take count places) b
+      unfolding some_in
       in_later = rw (is, h) (either_assoc p _ _ ∙ rw (next_place below) at so_far)
 
-      pub in_sure : sure_of q ≡ true → q ≡ all
+      pub in_sure : sure_of q ≡ true → q ≡ some_in file (take count places) b
       in_sure e = sure_either q _ e ∙ in_later
-
--- ---- where a step may lead
-module _ (file : List ℕ) (test : Test) (state next : List ℤ) where
-  lower_both : (at : ℕ) → lower_at file test state next at
-      ≡ (holds_of file at next && lower (ranks_behind file test at next) (ranks_behind file test test.premise state))
-  unfolding lower_at
-  lower_both at = refl
-
-  module _ (at : ℕ) where
-    pub lower_not : {h : Bool} → h ≡ holds_of file at next → h ≡ false → lower_at file test state next at ≡ false
-    lower_not is t = rw (lower_both at, ← is, t)
-
-    pub lower_is : {h : Bool} → h ≡ holds_of file at next → h ≡ true
-        → {c : Compared} → c ≡ compared_of (ranks_behind file test at next) (ranks_behind file test test.premise state)
-        → lower_at file test state next at ≡ c.lower
-    lower_is is t e = rw (lower_both at, ← is, t, e) (sym (compared_lower _ _))
-
-  pub not_kept : test.keep ≡ false → false ≡ kept_of file test state next
-  unfolding kept_of
-  not_kept t = rw t
-
-  module _ (t : test.keep ≡ true) {h : Bool} (is : h ≡ holds_of file test.premise next) where
-    pub kept_left : h ≡ false → false ≡ kept_of file test state next
-    unfolding kept_of
-    kept_left f = rw (t, ← is, f)
-
-    pub kept_is : h ≡ true → {c : Compared} → c ≡ compared_of (ranks_behind file test test.premise next) (ranks_behind file test test.premise state)
-        → c.same ≡ kept_of file test state next
-    unfolding kept_of
-    kept_is f e = rw (t, ← is, f, e) (compared_same _ _)
-
-  module _ {a : Bool} (is : a ≡ some_holds file (take test.free test.targets) next) where
-    pub leads_free : a ≡ true → true ≡ leads_of file test state next
-    unfolding leads_of
-    leads_free t = rw (← is, t)
-
-    module _ (f : a ≡ false) {b : Bool} (bs : b ≡ some_passes (lower_at file test state next) (drop test.free (targets_listed test))) where
-      pub leads_lower : b ≡ true → true ≡ leads_of file test state next
-      unfolding leads_of
-      leads_lower t = rw (← is, f, ← bs, t)
-
-      pub leads_kept : b ≡ false → {k : Bool} → k ≡ kept_of file test state next → k ≡ leads_of file test state next
-      unfolding leads_of
-      leads_kept t e = rw (← is, f, ← bs, t, e)
-
--- on boxes
-module _ (file : List ℕ) (test : Test) (from to : Box) where
-  pub lower_seen : (at : ℕ) {h : Seen} → h ≡ seen_of file at to → {c : ComparedIn} → c ≡ compared_behind file test from to at
-      → {q : Seen} → q ≡ both_of h c.lower → q ≡ lower_in file test from to at
-  unfolding lower_in
-  lower_seen at h c q = rw (q, h, c)
-
-  pub kept_never : test.keep ≡ false → No ≡ kept_in file test from to
-  unfolding kept_in
-  kept_never t = rw t
-
-  pub kept_seen : test.keep ≡ true → {h : Seen} → h ≡ seen_of file test.premise to
-      → {c : ComparedIn} → c ≡ compared_behind file test from to test.premise → both_of h c.same ≡ kept_in file test from to
-  unfolding kept_in
-  kept_seen t h c = rw (t, h, c)
-
-  pub leads_seen : {a : Seen} → a ≡ some_in file (take test.free test.targets) to
-      → {b : Seen} → b ≡ some_seen (lower_in file test from to) (drop test.free (targets_listed test)) → {k : Seen} → k ≡ kept_in file test from to
-      → either_of a (either_of b k) ≡ leads_in file test from to
-  unfolding leads_in
-  leads_seen a b k = rw (a, b, k)
 
 -- ---- a test
 module _ (lows highs : List ℤ) (file : List ℕ) (test : Test) (state : List ℤ) where
@@ -250,11 +170,6 @@ module _ (lows highs : List ℤ) (file : List ℕ) (test : Test) (state : List �
       → some_holds file (targets_listed test) state ≡ concludes_of lows highs file test test.conclusion state
   unfolding concludes_of
   concludes_some k = rw k
-
-  pub concludes_rank : test.conclusion ≡ Conclusion.NotNegative
-      → le_z (pos 0) (value_of file (rank_place file test) state) ≡ concludes_of lows highs file test test.conclusion state
-  unfolding concludes_of
-  concludes_rank k = rw k
 
   module _ {s : Stepped} (is : s ≡ step_of lows highs file test.transition state) where
     enabled : s.enabled ≡ enabled_of lows highs file test.transition state
@@ -277,7 +192,7 @@ module _ (lows highs : List ℤ) (file : List ℕ) (test : Test) (state : List �
       concludes_idle e = rw (k, successors_pass lows highs file test.transition state, ← enabled, e) (sym (implies_false _))
 
       module _ (e : s.enabled ≡ true) where
-        pub concludes_reached : all_pass (leads_of file test state) (states_between s.low s.high)
+        pub concludes_reached : all_pass (some_holds file (targets_listed test)) (states_between s.low s.high)
             ≡ concludes_of lows highs file test test.conclusion state
         unfolding concludes_of
         concludes_reached =
@@ -291,31 +206,26 @@ module _ (lows highs : List ℤ) (file : List ℕ) (test : Test) (state : List �
             )
             (sym (implies_true _))
 
-        -- what each state between the ends asks
+        -- what the targets ask: they can be evaluated between the ends
         module _ (fits : TestFits lows highs file test) (w : Within lows highs state) where
           transition_fits : TransitionFits file test.transition state
-          transition_fits = fits.transition (steps_so k refl) state w
+          transition_fits = fits.transition (steps_apart k refl) state w
 
           pub reached_ranges : Ranges s.low s.high
           reached_ranges =
               rw (step_low lows highs file test.transition state is e, step_high lows highs file test.transition state is e)
               (ends_ranges file test.transition state w transition_fits)
 
-          pub reached_fits : (next : List ℤ) → Within s.low s.high next → LeadsFit file test state next
-          reached_fits next b =
+          pub reached_fits : (next : List ℤ) → Within s.low s.high next → (i : ℕ) → i < test.count → TruthFits file (get_or test.targets i 0) next
+          reached_fits next b i l =
               let between = rw (step_low lows highs file test.transition state is e, step_high lows highs file test.transition state is e) at b in
-              leads_fit fits w (between_state lows highs file test.transition state (sym enabled ∙ e) w between)
+              fits.targets i l next (between_state lows highs file test.transition state (sym enabled ∙ e) w between)
 
 -- on a box
 module _ (ranges : Box) (file : List ℕ) (test : Test) (b : Box) where
   pub in_some : test.conclusion ≡ Conclusion.SomeTarget → some_in file (targets_listed test) b ≡ concludes_in ranges file test test.conclusion b
   unfolding concludes_in
   in_some k = rw k
-
-  pub in_rank : test.conclusion ≡ Conclusion.NotNegative → {at : ℕ} → at ≡ rank_place file test
-      → {z e : Extent} → z ≡ extent_of (pos 0) (pos 0) 12 → e ≡ extent_at file at b → at_most_in z e ≡ concludes_in ranges file test test.conclusion b
-  unfolding concludes_in
-  in_rank k a z e = rw (k, z, e, a)
 
   module _ {m : Moved} (is : m ≡ move_of ranges file test.transition b) where
     pub in_range_lem : test.conclusion ≡ Conclusion.ValuesInRange → implies_in m.guard m.range ≡ concludes_in ranges file test test.conclusion b
@@ -327,10 +237,10 @@ module _ (ranges : Box) (file : List ℕ) (test : Test) (b : Box) where
     in_enabled k = rw (k, is)
 
     module _ {enabled : Seen} (e : enabled ≡ both_of m.guard m.range) (k : test.conclusion ≡ Conclusion.Reached) where
-      pub in_reached : {some : Seen} → some ≡ leads_in file test b m.to
+      pub in_reached : {some : Seen} → some ≡ some_in file (targets_listed test) m.to
           → implies_in enabled some ≡ concludes_in ranges file test test.conclusion b
       unfolding concludes_in
-      in_reached s = rw (s, e, is) (sym (ap (λ (c : Conclusion). concludes_in ranges file test c b) k))
+      in_reached s = rw (k, s, e, is)
 
       pub in_idle : never_of enabled ≡ true → Yes ≡ concludes_in ranges file test test.conclusion b
       in_idle n = never_implies enabled _ n ∙ in_reached refl
@@ -351,24 +261,15 @@ module _ {ranges : Box} {file : List ℕ} {test : Test} (fits : TestFits ranges.
   pub premise_in : TruthFits file test.premise b.low
   premise_in = fits.premise _ low
 
-  pub own_in : NumbersFit file test.ranks (behind file test.premise) b.low
-  own_in = fits.own _ low
-
   pub targets_in : (i : ℕ) → i < test.count → TruthFits file (get_or test.targets i 0) b.low
   targets_in i l = fits.targets i l _ low
 
   pub transition_in : {c : Conclusion} → test.conclusion ≡ c → steps c ≡ true → TransitionFits file test.transition b.low
-  transition_in e t = fits.transition (steps_so e t) _ low
+  transition_in e t = fits.transition (steps_apart e t) _ low
 
-  pub reached_in : {m : Moved} → m ≡ move_of ranges file test.transition b → LeadsFit file test b.low m.to.low
-  reached_in is = rw is (leads_fit fits low (to_low ranges file test.transition b low))
-
-  pub rank_in : test.conclusion ≡ Conclusion.NotNegative → NumbersFit file 1 (rank_place file test) b.low
-  rank_in e = rank_fits fits low (fits.some e)
-
--- a node has two ranks at most
-pub ranks_few : (c : Claim) → (property_of c).ranks ≤ 2
-ranks_few c = ⊎_elim (λ e. omega (arith, e)) (λ x. x.0) (ranks_most c)
+  pub reached_in : {m : Moved} → m ≡ move_of ranges file test.transition b
+      → (i : ℕ) → i < test.count → TruthFits file (get_or test.targets i 0) m.to.low
+  reached_in is i l = rw is (fits.targets i l _ (to_low ranges file test.transition b low))
 
 -- ---- the test of a condition
 module _ (file : List ℕ) (g : Diagram) (r : Loaded file g) where
@@ -406,35 +307,11 @@ module _ (file : List ℕ) (g : Diagram) (r : Loaded file g) where
         unfolding test_of
         test_enabling e q = rw (e, q)
 
-        pub test_step : c ≡ Step n t → {x : Test} → x ≡ step_test file g n t → x ≡ test_of file g c
+        pub test_step : c ≡ Step n t → t < g.transitions → {double : ℕ} → double ≡ double_of file g n
+            → {marks : List Bool} → marks ≡ marks_of file g n t (not (eqb double t)) → {q : Targets} → q ≡ chosen_of marks g.assertions g.nodes
+            → prepared_of (get_or g.assertions n 0) Conclusion.Reached (step_at g t) q ≡ test_of file g c
         unfolding test_of
-        test_step e x = rw (e, x)
-
-      pub test_rank : {i : ℕ} → c ≡ Rank n i → {q : Targets} → q ≡ targets_of []
-          → {x : Test} → x ≡ prepared_of (get_or g.assertions n 0) Conclusion.NotNegative 0 q
-          → {y : Test} → y ≡ ranked_of x 0 (i + 1) false → y ≡ test_of file g c
-      unfolding test_of
-      test_rank e q x y = rw (e, y, x, q)
-
-  -- ---- the test of a step
-  module _ (n t : ℕ) (l : t < g.transitions) {double : ℕ} (d : double ≡ double_of file g n) {ranks : ℕ} (k : ranks ≡ (property_of g.claim).ranks) where
-    same_double : eqb double t ≡ is_double file g n t
-    same_double = eqb_swap double t ∙ ap (eqb t) d ∙ sym (double_is file g r n t l)
-
-    pub step_plain : ranks ≡ 0 → {marks : List Bool} → marks ≡ marks_of file g n t (not (eqb double t))
-        → {q : Targets} → q ≡ chosen_of marks g.assertions g.nodes
-        → prepared_of (get_or g.assertions n 0) Conclusion.Reached (step_at g t) q ≡ step_test file g n t
-    unfolding step_test
-    step_plain z {marks} m q =
-        let none : eqb (property_of g.claim).ranks 0 ≡ true = eq-eqb _ _ (sym k ∙ z) in
-        let chosen : marks ≡ marks_of file g n t (not (is_double file g n t)) = rw same_double at m in
-        rw (none, q, chosen)
-
-    pub step_ranked : (ranks ≡ 0 → ⊥) → {marks : List Bool} → marks ≡ marks_of file g n t false
-        → {q : Targets} → q ≡ chosen_of marks g.assertions g.nodes
-        → {x : Test} → x ≡ prepared_of (get_or g.assertions n 0) Conclusion.Reached (step_at g t) q
-        → {b : Bool} → get_or marks 0 false ≡ b → ranked_of x (cond b 1 0) ranks (not (eqb double t)) ≡ step_test file g n t
-    unfolding step_test
-    step_ranked z {marks} m {q} c {x} e {b} h =
-        let some : eqb (property_of g.claim).ranks 0 ≡ false = ne_eqb _ _ (λ y. z (k ∙ y)) in
-        rw (some, ← m, h, same_double, e, c, k)
+        test_step e l {double} d {marks} k q =
+            let same : eqb double t ≡ is_double file g n t = eqb_swap double t ∙ ap (eqb t) d ∙ sym (double_is file g r n t l) in
+            let chosen : marks ≡ marks_of file g n t (not (is_double file g n t)) = rw same at k in
+            rw (e, q, chosen)

@@ -7,7 +7,7 @@ use native.Mathlib.Omega.{arith}
 use lib.ListN.{get_or}
 use Rattle.conditions.specs.declared.Condition.{Condition}
 use Rattle.conditions.proofs.Laws.Condition.{Parts}
-use Rattle.testing.proofs.Steps.Testing.{parts_of, keeps, ranks_few, test_start, test_entry, test_cover, test_rank, test_range, test_step, test_enabling}
+use Rattle.testing.proofs.Steps.Testing.{parts_of, keeps, test_start, test_entry, test_cover, test_range, test_step, test_enabling}
 use Rattle.testing.proofs.test_of.Statement.{statement}
 use Rattle.testing.proofs.test_of.Tie as tie
 
@@ -75,11 +75,25 @@ prepared-requires-3 c κs = search rules
 enum-known-condition-2 : tie.Need-enum-known-condition-2
 enum-known-condition-2 c = search rules
 
+mul-step : tie.Need-overflow-mul-step
+mul-step c =
+    let s = c.before.before.before.before.before.before in
+    omega (arith, (parts s c.before.condition2.given.1).1, moves s)
+
+array-read-step : tie.Need-array-read-step
+array-read-step c =
+    let s = c.before.before.before.before.before.before in
+    omega (arith, (parts s c.before.condition2.given.1).1, moves s)
+
 mul-prepared-2 : tie.Need-overflow-mul-prepared-2
-mul-prepared-2 c = let s = c.before.before.before.before.before.before in omega (arith, (parts s c.before.condition2.given.1).0, few s)
+mul-prepared-2 c =
+    let s = c.before.before.before.before.before.before in
+    omega (arith, (parts s c.before.condition2.given.1).0, few s)
 
 array-read-prepared-2 : tie.Need-array-read-prepared-2
-array-read-prepared-2 c = let s = c.before.before.before.before.before.before in omega (arith, (parts s c.before.condition2.given.1).0, few s)
+array-read-prepared-2 c =
+    let s = c.before.before.before.before.before.before in
+    omega (arith, (parts s c.before.condition2.given.1).0, few s)
 
 none-requires : tie.Need-none-requires
 none-requires c κs = search rules
@@ -87,29 +101,41 @@ none-requires c κs = search rules
 prepared-requires-4 : tie.Need-prepared-requires-4
 prepared-requires-4 c κs = search rules
 
-add-ranked : tie.Need-overflow-add-ranked
-add-ranked c = let s = c.before.before.before.before.before.before.before.before in omega (arith, (parts s c.before.before.before.condition2.given.1).1, ranks_few s.args.diagram.claim)
-
-ranked-requires : tie.Need-ranked-requires
-ranked-requires c κs = search rules
-
 enum-known-condition-3 : tie.Need-enum-known-condition-3
 enum-known-condition-3 c = search rules
 
-mul-step : tie.Need-overflow-mul-step
-mul-step c = let s = c.before.before.before.before.before.before in omega (arith, (parts s c.before.condition3.given.1).1, moves s)
+mul-step-2 : tie.Need-overflow-mul-step-2
+mul-step-2 c =
+    let s = c.before.before.before.before.before.before in
+    omega (arith, (parts s c.before.condition3.given.1).1, moves s)
 
-array-read-step : tie.Need-array-read-step
-array-read-step c = let s = c.before.before.before.before.before.before in omega (arith, (parts s c.before.condition3.given.1).1, moves s)
+array-read-step-2 : tie.Need-array-read-step-2
+array-read-step-2 c =
+    let s = c.before.before.before.before.before.before in
+    omega (arith, (parts s c.before.condition3.given.1).1, moves s)
+
+double-of-requires : tie.Need-double-of-requires
+double-of-requires c κs = search rules
+
+marks-requires : tie.Need-marks-requires
+marks-requires c κs =
+    let s = c.before.before.before.before.before.before.before in
+    (s.requires.0, (parts s c.before.before.condition3.given.1).0)
+
+choose-requires-3 : tie.Need-choose-requires-3
+choose-requires-3 c κs =
+    let s = c.before.before.before.before.before.before.before.before in
+    (few s, small s)
 
 mul-prepared-3 : tie.Need-overflow-mul-prepared-3
-mul-prepared-3 c = let s = c.before.before.before.before.before.before in omega (arith, (parts s c.before.condition3.given.1).0, few s)
+mul-prepared-3 c =
+    let s = c.before.before.before.before.before.before.before.before.before in
+    omega (arith, (parts s c.before.before.before.before.condition3.given.1).0, few s)
 
 array-read-prepared-3 : tie.Need-array-read-prepared-3
-array-read-prepared-3 c = let s = c.before.before.before.before.before.before in omega (arith, (parts s c.before.condition3.given.1).0, few s)
-
-none-requires-2 : tie.Need-none-requires-2
-none-requires-2 c κs = search rules
+array-read-prepared-3 c =
+    let s = c.before.before.before.before.before.before.before.before.before in
+    omega (arith, (parts s c.before.before.before.before.condition3.given.1).0, few s)
 
 prepared-requires-5 : tie.Need-prepared-requires-5
 prepared-requires-5 c κs = search rules
@@ -117,50 +143,68 @@ prepared-requires-5 c κs = search rules
 enum-known-condition-4 : tie.Need-enum-known-condition-4
 enum-known-condition-4 c = search rules
 
-step-test-requires : tie.Need-step-test-requires
-step-test-requires c κs = (c.before.before.before.before.before.before.requires.0, parts c.before.before.before.before.before.before c.before.condition4.given.1)
+mul-step-3 : tie.Need-overflow-mul-step-3
+mul-step-3 c =
+    let s = c.before.before.before.before.before.before in
+    omega (arith, (parts s c.before.condition4.given.1).1, moves s)
 
-enum-known-condition-5 : tie.Need-enum-known-condition-5
-enum-known-condition-5 c = search rules
-
-mul-step-2 : tie.Need-overflow-mul-step-2
-mul-step-2 c = let s = c.before.before.before.before.before.before in omega (arith, (parts s c.before.condition5.given.1).1, moves s)
-
-array-read-step-2 : tie.Need-array-read-step-2
-array-read-step-2 c = let s = c.before.before.before.before.before.before in omega (arith, (parts s c.before.condition5.given.1).1, moves s)
+array-read-step-3 : tie.Need-array-read-step-3
+array-read-step-3 c =
+    let s = c.before.before.before.before.before.before in
+    omega (arith, (parts s c.before.condition4.given.1).1, moves s)
 
 mul-prepared-4 : tie.Need-overflow-mul-prepared-4
-mul-prepared-4 c = let s = c.before.before.before.before.before.before in omega (arith, (parts s c.before.condition5.given.1).0, few s)
+mul-prepared-4 c =
+    let s = c.before.before.before.before.before.before in
+    omega (arith, (parts s c.before.condition4.given.1).0, few s)
 
 array-read-prepared-4 : tie.Need-array-read-prepared-4
-array-read-prepared-4 c = let s = c.before.before.before.before.before.before in omega (arith, (parts s c.before.condition5.given.1).0, few s)
+array-read-prepared-4 c =
+    let s = c.before.before.before.before.before.before in
+    omega (arith, (parts s c.before.condition4.given.1).0, few s)
 
-none-requires-3 : tie.Need-none-requires-3
-none-requires-3 c κs = search rules
+none-requires-2 : tie.Need-none-requires-2
+none-requires-2 c κs = search rules
 
 prepared-requires-6 : tie.Need-prepared-requires-6
 prepared-requires-6 c κs = search rules
 
 returns : tie.Need-returns
-returns c = c.prepared.ensures ∙ test_start _ _ c.before.before.before.before.before.before.before.requires.0 c.before.before.enum_told.given.1 c.before.choose.ensures
+returns c =
+    c.prepared.ensures
+    ∙ test_start _ _ c.before.before.before.before.before.before.before.requires.0 c.before.before.enum_told.given.1 c.before.choose.ensures
 
 returns-2 : tie.Need-returns-2
-returns-2 c = c.prepared2.ensures ∙ test_entry _ _ c.before.before.before.before.before.before.before.before.requires.0 c.before.before.before.enum-told2.given.1 c.before.before.choose2.ensures c.before.claimed_at_lem.ensures
+returns-2 c =
+    c.prepared2.ensures
+    ∙ test_entry _ _ c.before.before.before.before.before.before.before.before.requires.0 c.before.before.before.enum-told2.given.1
+    c.before.before.choose2.ensures c.before.claimed_at_lem.ensures
 
 returns-3 : tie.Need-returns-3
-returns-3 c = c.prepared3.ensures ∙ test_cover _ _ c.before.before.before.before.before.before.before.before.before.requires.0 c.before.before.before.before.condition.given.1 c.before.one.ensures c.before.before.q_at_lem.ensures
+returns-3 c =
+    c.prepared3.ensures
+    ∙ test_cover _ _ c.before.before.before.before.before.before.before.before.before.requires.0
+    c.before.before.before.before.condition.given.1 c.before.one.ensures c.before.before.q_at_lem.ensures
 
 returns-4 : tie.Need-returns-4
-returns-4 c = test_rank _ _ c.before.before.before.before.before.before.before.before.before.requires.0 c.before.before.before.before.condition2.given.1 c.before.before.none.ensures c.before.prepared4.ensures c.ranked.ensures
+returns-4 c =
+    c.prepared4.ensures
+    ∙ test_range _ _ c.before.before.before.before.before.before.before.before.requires.0
+    c.before.before.before.condition2.given.1 c.before.none.ensures
 
 returns-5 : tie.Need-returns-5
-returns-5 c = c.prepared5.ensures ∙ test_range _ _ c.before.before.before.before.before.before.before.before.requires.0 c.before.before.before.condition3.given.1 c.before.none2.ensures
+returns-5 c =
+    let s = c.before.before.before.before.before.before.before.before.before.before in
+    let e = c.before.before.before.before.before.condition3.given.1 in
+    c.prepared5.ensures
+    ∙ test_step _ _ s.requires.0 e (parts s e).1 c.before.before.before.double_of_lem.ensures c.before.before.marks.ensures
+    c.before.choose3.ensures
 
 returns-6 : tie.Need-returns-6
-returns-6 c = test_step _ _ c.before.before.before.before.before.before.before.requires.0 c.before.before.condition4.given.1 c.step-test.ensures
-
-returns-7 : tie.Need-returns-7
-returns-7 c = c.prepared6.ensures ∙ test_enabling _ _ c.before.before.before.before.before.before.before.before.requires.0 c.before.before.before.condition5.given.1 c.before.none3.ensures
+returns-6 c =
+    c.prepared6.ensures
+    ∙ test_enabling _ _ c.before.before.before.before.before.before.before.before.requires.0
+    c.before.before.before.condition4.given.1 c.before.none2.ensures
 
 pub test-of-spec : {M : Type 1} → statement M
 test-of-spec =
@@ -180,32 +224,31 @@ test-of-spec =
     array-read-prepared
     prepared-requires-3
     enum-known-condition-2
+    mul-step
+    array-read-step
     mul-prepared-2
     array-read-prepared-2
     none-requires
     prepared-requires-4
-    add-ranked
-    ranked-requires
     enum-known-condition-3
-    mul-step
-    array-read-step
-    mul-prepared-3
-    array-read-prepared-3
-    none-requires-2
-    prepared-requires-5
-    enum-known-condition-4
-    step-test-requires
-    enum-known-condition-5
     mul-step-2
     array-read-step-2
+    double-of-requires
+    marks-requires
+    choose-requires-3
+    mul-prepared-3
+    array-read-prepared-3
+    prepared-requires-5
+    enum-known-condition-4
+    mul-step-3
+    array-read-step-3
     mul-prepared-4
     array-read-prepared-4
-    none-requires-3
+    none-requires-2
     prepared-requires-6
     returns
     returns-2
     returns-3
     returns-4
     returns-5
-    returns-6
-    returns-7)
+    returns-6)

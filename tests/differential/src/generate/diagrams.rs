@@ -2,26 +2,20 @@
 //! transition raises, whose values the nodes share out, and that a chain's double transitions lower.
 
 use super::{
-    join, picks, plain, range, ranks, record, value, Code, Draft, Edge, Grower, Pick, Random,
-    Record, Transition, CHAIN, CHAINS, DIVISIONS, INVARIANCE, RANKED, WAIT_FOR,
+    join, picks, plain, range, record, value, Code, Draft, Edge, Grower, Pick, Random, Record,
+    Transition, CHAIN, DIVISIONS, INVARIANCE, WAIT_FOR,
 };
 
 /// The chance, in percent, that a part which establishes the claim is left out or is weaker.
 const GAP: usize = 3;
 /// The chance, in percent, of a diagram without a rank, for its picks.
 const FORKS: usize = 12;
-/// The chance, in percent, of a ranked chain that counts down.
-const COUNTDOWNS: usize = 20;
 
 /// A diagram's records.
 pub fn diagram(random: &mut Random) -> Vec<Record> {
-    let chance = random.below(100);
-    let draft = if chance < FORKS {
-        picks::fork(random)
-    } else if chance < FORKS + COUNTDOWNS {
-        ranks::countdown(random)
-    } else {
-        by_rank(random)
+    let draft = match random.percent(FORKS) {
+        true => picks::fork(random),
+        false => by_rank(random),
     };
     let mut records = draft.records();
     for _ in 0..random.pick(&[0, 0, 0, 0, 1, 1, 1, 2]) {
@@ -78,9 +72,6 @@ struct Builder<'a> {
     rank: Rank,
     /// Node 0 has the ranks up to the first cut, each other node those up to its own one.
     cuts: Vec<i64>,
-    /// Whether this rank is also the one that stands in a ranked chain's nodes, so that a double step
-    /// may keep the node. Otherwise a constant of each node's stands there.
-    written: bool,
 }
 
 // ------------------------------------------------------------------------------ expressions
@@ -93,11 +84,11 @@ pub fn less(left: &Code, right: &Code) -> Code {
     join(0x28, &[left, right])
 }
 
-pub fn at_most(left: &Code, right: &Code) -> Code {
+fn at_most(left: &Code, right: &Code) -> Code {
     join(0x29, &[left, right])
 }
 
-pub fn difference(left: &Code, right: &Code) -> Code {
+fn difference(left: &Code, right: &Code) -> Code {
     join(0x13, &[left, right])
 }
 
@@ -164,16 +155,12 @@ impl Transition {
 
 impl<'a> Builder<'a> {
     fn new(mut grower: Grower<'a>) -> Builder<'a> {
-        let property = grower.random.pick(&[INVARIANCE, WAIT_FOR, CHAIN, RANKED]);
+        let property = grower.random.pick(&[INVARIANCE, WAIT_FOR, CHAIN]);
         let rank = rank(&mut grower, property);
-        let written = property == RANKED && grower.random.percent(60);
         let mut cuts = vec![rank.least + rank.by - 1 + grower.random.below(2) as i64];
         for at in 0..grower.random.below(5) {
             // A step that lowers the rank then leaves a chain's node.
-            let widest = match CHAINS.contains(&property) && !written {
-                true => rank.by,
-                false => 3,
-            };
+            let widest = if property == CHAIN { rank.by } else { 3 };
             cuts.push(cuts[at] + grower.random.within(1, widest));
         }
         Builder {
@@ -181,12 +168,7 @@ impl<'a> Builder<'a> {
             property,
             rank,
             cuts,
-            written,
         }
-    }
-
-    fn chain(&self) -> bool {
-        CHAINS.contains(&self.property)
     }
 
     fn percent(&mut self, chance: usize) -> bool {
@@ -198,7 +180,7 @@ impl<'a> Builder<'a> {
         // Transitions that lower the rank, among others; a chain needs one.
         let mut lowers = vec![false; self.grower.random.below(3)];
         let most = if self.rank.lowering.is_empty() { 1 } else { 2 };
-        let least = usize::from(self.chain());
+        let least = usize::from(self.property == CHAIN);
         lowers.extend(vec![true; least + self.grower.random.below(most)]);
         self.grower.random.shuffle(&mut lowers);
         // The first of those that lower the rank does so from each node from 1 up.
@@ -236,7 +218,7 @@ impl<'a> Builder<'a> {
             },
             _ => self.grower.start(3),
         };
-        let mut draft = Draft {
+        Draft {
             start,
             transitions,
             property: self.property,
@@ -248,29 +230,8 @@ impl<'a> Builder<'a> {
             truths,
             edges: self.edges(&above),
             nodes,
-            ranks: self.ranks(),
             ranges: self.grower.ranges.to_vec(),
-        };
-        if self.property == RANKED && self.percent(50) {
-            draft.renumber(self.grower.random);
         }
-        draft
-    }
-
-    /// A ranked chain's: from 0 up on the nodes but the goal, or from a little more; seldom less.
-    fn ranks(&mut self) -> Vec<Code> {
-        if self.property != RANKED {
-            return Vec::new();
-        }
-        let more = self.grower.random.pick(&[0, 0, 0, 1, 2]) - i64::from(self.percent(3 * GAP));
-        let mut ranks = vec![self.grower.goal_rank()];
-        for node in 1..self.cuts.len() {
-            ranks.push(match self.written {
-                true => difference(&self.rank.number, &value(self.cuts[0] + 1 - more)),
-                false => value(node as i64 - 1 + more),
-            });
-        }
-        ranks
     }
 
     /// That the rank is at most the node's cut.
@@ -285,8 +246,7 @@ impl<'a> Builder<'a> {
 
     /// A node's assertion.
     fn node(&mut self, node: usize) -> Code {
-        let often = if self.property == RANKED { 3 } else { 20 };
-        let nested = self.property != CHAIN && self.percent(often);
+        let nested = self.property != CHAIN && self.percent(20);
         if node == 0 || nested {
             return self.below(node);
         }
@@ -411,9 +371,8 @@ impl<'a> Builder<'a> {
     }
 
     /// Edges by the rules, most of them or all. Those that lower the rank are, in a chain, double
-    /// transitions of some nodes above the one that is given. Some of a ranked chain's lead upward.
+    /// transitions of some nodes above the one that is given.
     fn edges(&mut self, above: &[Option<usize>]) -> Vec<Edge> {
-        let chain = self.chain();
         let random = &mut *self.grower.random;
         let kept = random.pick(&[100, 100, 90, 50, 10]);
         let nodes = self.cuts.len();
@@ -421,17 +380,15 @@ impl<'a> Builder<'a> {
         for from in usize::from(self.property != INVARIANCE)..nodes {
             let lowers = |at: &usize| above[*at].map_or(false, |node| node < from);
             let lowering: Vec<usize> = (0..above.len()).filter(lowers).collect();
-            let double = chain.then(|| random.pick(&lowering));
+            let double = (self.property == CHAIN).then(|| random.pick(&lowering));
             for transition in 0..above.len() {
                 let double = double == Some(transition);
                 let targets = match self.property {
                     INVARIANCE => nodes,
-                    RANKED if random.percent(15) => nodes,
-                    _ if double && !self.written => from,
+                    _ if double => from,
                     _ => from + 1,
                 };
-                // A target that it surely has, below the node.
-                let sure = random.below(targets.min(from.max(1)));
+                let sure = random.below(targets);
                 for to in 0..targets {
                     if random.percent(kept) || double && to == sure {
                         edges.push(Edge {
@@ -449,7 +406,7 @@ impl<'a> Builder<'a> {
     }
 }
 
-/// A rank. A chain's, ranked or not, is such that it can be lowered.
+/// A rank. A chain's is such that it can be lowered.
 fn rank(grower: &mut Grower, property: u8) -> Rank {
     let ranges = grower.ranges;
     let number = grower.random.below(ranges.len());
@@ -526,7 +483,7 @@ fn rank(grower: &mut Grower, property: u8) -> Rank {
                 from_end: None,
             }
         }
-        _ if !CHAINS.contains(&property) => {
+        _ if property != CHAIN => {
             let (number, (least, _)) = grower.number(3, false);
             Rank {
                 number,

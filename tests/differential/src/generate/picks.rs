@@ -3,7 +3,7 @@
 use super::diagrams::{less, remainder, variable};
 use super::{
     constant, field_byte, join, plain, record, value, Draft, Edge, Grower, Pick, Random, Record,
-    Transition, CHAIN, CHAINS, INVARIANCE, NO_KINDS, RANKED, WAIT_FOR,
+    Transition, CHAIN, INVARIANCE, NO_KINDS, WAIT_FOR,
 };
 
 /// As many combinations as a transition may have.
@@ -144,7 +144,7 @@ pub fn ranges(random: &mut Random) -> Vec<(i16, i16)> {
 /// node a transition picks among values, and an edge leads to the node of each; another transition
 /// leads from each node to node 0. Or nearly so.
 pub fn fork(random: &mut Random) -> Draft {
-    let property = random.pick(&[INVARIANCE, WAIT_FOR, CHAIN, RANKED]);
+    let property = random.pick(&[INVARIANCE, WAIT_FOR, CHAIN]);
     let nodes = 2 + random.below(4);
     let size = (nodes + random.below(2)) as i64;
     let width = random.within(1, 3);
@@ -162,17 +162,14 @@ pub fn fork(random: &mut Random) -> Draft {
         INVARIANCE => random.below(nodes),
         _ => 1 + random.below(nodes - 1),
     };
-    // A chain's picks lead below the node, a ranked one's also above it, a wait-for's not above it.
-    let above = property == RANKED && from + 1 < nodes && random.percent(40);
-    let first = if above { low + from as i64 + 1 } else { low };
+    // A chain's picks lead below the node, a wait-for's not above it.
     let most = match property {
-        _ if above => random.within(first, high),
         INVARIANCE => random.within(low, high),
         WAIT_FOR if from + 1 == nodes => high,
         WAIT_FOR => low + from as i64,
         _ => low + from as i64 - 1,
     };
-    let least = random.within(first, most.min(first + 1));
+    let least = random.within(low, most.min(low + 1));
     let mut forking = Transition::new(true, node(from));
     forking.pick(random, pick_of(v as u8, least, most));
     let mut back = Transition::new(true, less(&value(low), &number));
@@ -186,7 +183,7 @@ pub fn fork(random: &mut Random) -> Draft {
         from: leaves,
         to,
         // One transition of each node.
-        double: CHAINS.contains(&property) && (transition == 0 || leaves != from),
+        double: property == CHAIN && (transition == 0 || leaves != from),
     };
     let mut truths = vec![vec![plain(0x20)]; 1 + nodes];
     truths.truncate(match property {
@@ -194,20 +191,9 @@ pub fn fork(random: &mut Random) -> Draft {
         WAIT_FOR => 1 + nodes,
         _ => 2,
     });
-    if CHAINS.contains(&property) {
+    if property == CHAIN {
         truths[1] = node(0);
     }
-    // The node's own rank is above the others', or nearly so.
-    let top = random.pick(&[3, 3, 3, 2]);
-    let ranks: Vec<i64> = (0..nodes)
-        .map(|node| {
-            if node == from {
-                top
-            } else {
-                random.within(0, 2)
-            }
-        })
-        .collect();
     let mut draft = Draft {
         start: node(random.below(nodes)),
         transitions: vec![forking, back],
@@ -219,10 +205,6 @@ pub fn fork(random: &mut Random) -> Draft {
         },
         truths,
         nodes: (0..nodes).map(node).collect(),
-        ranks: match property {
-            RANKED => ranks.into_iter().map(value).collect(),
-            _ => Vec::new(),
-        },
         edges: forks.chain(returns).map(edge).collect(),
         ranges,
     };

@@ -34,7 +34,7 @@ impl Grower<'_> {
     pub fn start(&mut self, levels: usize) -> Code {
         let truth = self.truth(levels, false);
         let many = self.states() > MANY;
-        match self.random.below(if many { 60 } else { 20 }) {
+        match self.random.below(if many { 100 } else { 20 }) {
             0 | 1 => self.nowhere(),
             2..=4 => self.one_state(),
             _ if many && levels < 16 => join(0x24, &[&self.state(0), &truth]),

@@ -4,9 +4,8 @@
 use super::{field_b, ranges, told};
 use crate::compare::{Case, Facts};
 use crate::generate::{owners, plain, record, Record};
-use independent::{enabled, number, read, states, successors, truth};
+use independent::{enabled, read, states, successors, truth};
 use independent::{Condition, File, Refusal, State, Tested, Transition, Verdict};
-use std::cmp::Ordering;
 
 const COMBINATIONS: i64 = 4_096;
 /// Of files with at most so many tests it is told which successors the steps have.
@@ -73,19 +72,19 @@ pub const PICKS: [&str; 55] = [
 
 /// The verdicts of files with picks that must come up, for the properties that have them.
 pub const PICKED: [(&str, &[usize]); 13] = [
-    ("accepted, several successors", &[1, 2, 3, 4]),
-    ("accepted, successors of different nodes", &[1, 2, 3, 4]),
-    ("accepted, several successors by double edges", &[3, 4]),
-    ("accepted, of different nodes by double edges", &[3, 4]),
-    ("step broken, the lowest successor fine", &[1, 2, 3, 4]),
-    ("step broken, the highest successor fine", &[1, 2, 3, 4]),
-    ("step broken, the lowest and highest fine", &[1, 2, 3, 4]),
-    ("step broken by one successor of several", &[1, 2, 3, 4]),
-    ("step broken by each of several successors", &[1, 2, 3, 4]),
-    ("step broken by one that keeps the node, double", &[3, 4]),
-    ("range broken beside a pick", &[1, 2, 3, 4]),
-    ("enabling broken beside a pick", &[3, 4]),
-    ("cover broken, with picks", &[1, 2, 3, 4]),
+    ("accepted, several successors", &[1, 2, 3]),
+    ("accepted, successors of different nodes", &[1, 2, 3]),
+    ("accepted, several successors by double edges", &[3]),
+    ("accepted, of different nodes by double edges", &[3]),
+    ("step broken, the lowest successor fine", &[1, 2, 3]),
+    ("step broken, the highest successor fine", &[1, 2, 3]),
+    ("step broken, the lowest and highest fine", &[1, 2, 3]),
+    ("step broken by one successor of several", &[1, 2, 3]),
+    ("step broken by each of several successors", &[1, 2, 3]),
+    ("step broken by one that keeps the node, double", &[3]),
+    ("range broken beside a pick", &[1, 2, 3]),
+    ("enabling broken beside a pick", &[3]),
+    ("cover broken, with picks", &[1, 2, 3]),
 ];
 
 /// The single tests of transitions with picks that must come up.
@@ -417,37 +416,25 @@ fn again(records: &[Record], all: &[Sets], place: usize) -> Vec<&'static str> {
 // ------------------------------------------------------------------------------ conditions
 
 /// The successors of a state by a transition, and the nodes that they may satisfy, from this node.
-pub struct Step<'a> {
+struct Step<'a> {
     file: &'a File,
-    pub state: State,
-    pub node: usize,
-    pub successors: Vec<State>,
-    targets: Vec<Target>,
-    pub double: bool,
-}
-
-/// The node itself, if the step may keep it, or an edge's target.
-#[derive(Clone, Copy, PartialEq)]
-enum Target {
-    Kept(usize),
-    Led(usize),
+    node: usize,
+    successors: Vec<State>,
+    targets: Vec<usize>,
+    double: bool,
 }
 
 impl<'a> Step<'a> {
-    pub fn of(file: &'a File, node: usize, transition: usize, state: &State) -> Step<'a> {
+    fn of(file: &'a File, node: usize, transition: usize, state: &State) -> Step<'a> {
         let one = &file.transitions[transition];
         let double = file.edges_from(node, transition).any(|edge| edge.double);
-        let mut targets = vec![Target::Kept(node)];
+        let mut targets = vec![node];
         if double {
             targets.clear();
         }
-        targets.extend(
-            file.edges_from(node, transition)
-                .map(|edge| Target::Led(edge.to)),
-        );
+        targets.extend(file.edges_from(node, transition).map(|edge| edge.to));
         Step {
             file,
-            state: *state,
             node,
             successors: successors(one, &file.variables, state),
             targets,
@@ -455,50 +442,22 @@ impl<'a> Step<'a> {
         }
     }
 
-    pub fn satisfies(&self, next: &State, node: usize) -> bool {
+    fn satisfies(&self, next: &State, node: usize) -> bool {
         truth(&self.file.nodes[node], next)
     }
 
-    /// Whether an edge leads there.
-    pub fn leads(&self, node: usize) -> bool {
-        self.targets.contains(&Target::Led(node))
-    }
-
-    /// How a node's rank in a state compares with what the rank of the step's node was.
-    pub fn rank(&self, node: usize, at: &State) -> Ordering {
-        let ranks = &self.file.ranks;
-        number(&ranks[node], at).cmp(&number(&ranks[self.node], &self.state))
-    }
-
-    /// Whether the successor may be in that node, by its rank too where there is one.
-    fn passes(&self, next: &State, target: Target) -> bool {
-        let ranked = !self.file.ranks.is_empty();
-        match target {
-            Target::Kept(node) if ranked => {
-                self.satisfies(next, node) && self.rank(node, next) == Ordering::Equal
-            }
-            Target::Led(node) if ranked && node > 0 => {
-                self.satisfies(next, node) && self.rank(node, next) == Ordering::Less
-            }
-            Target::Kept(node) | Target::Led(node) => self.satisfies(next, node),
-        }
-    }
-
-    pub fn fine_at(&self, next: &State) -> bool {
-        self.targets.iter().any(|&target| self.passes(next, target))
-    }
-
     fn fine(&self) -> Vec<bool> {
-        self.successors
-            .iter()
-            .map(|next| self.fine_at(next))
-            .collect()
+        let fine = |next: &State| self.targets.iter().any(|&node| self.satisfies(next, node));
+        self.successors.iter().map(fine).collect()
     }
 
     /// Whether no one target is satisfied by all.
-    pub fn apart(&self) -> bool {
-        let by_all =
-            |&&target: &&Target| self.successors.iter().all(|next| self.passes(next, target));
+    fn apart(&self) -> bool {
+        let by_all = |&&node: &&usize| {
+            self.successors
+                .iter()
+                .all(|next| self.satisfies(next, node))
+        };
         self.targets.iter().find(by_all).is_none()
     }
 
@@ -657,11 +616,12 @@ fn would_break(file: &File, one: &Transition, step: &Step, state: &State) -> boo
         ..one.clone()
     };
     let list = successors(&unguarded, &file.variables, state);
-    !list.iter().all(|next| step.fine_at(next))
+    let fine = |next: &State| step.targets.iter().any(|&node| step.satisfies(next, node));
+    !list.iter().all(fine)
 }
 
 /// The state of that number.
-pub fn numbered(file: &File, number: usize) -> State {
+fn numbered(file: &File, number: usize) -> State {
     let (mut state, mut left): (State, usize) = ([0; 12], number);
     for (at, range) in file.variables.iter().enumerate().rev() {
         state[at] = (i64::from(range.low) + (left % range.size()) as i64) as i16;

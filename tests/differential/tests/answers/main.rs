@@ -6,7 +6,6 @@ mod counting;
 mod evaluating;
 mod examples;
 mod picks;
-mod ranks;
 mod refusals;
 
 use differential::compare::{proved_check, proved_single};
@@ -23,7 +22,7 @@ const CHECKERS: [(&str, Check, Single); 2] = [
 ];
 
 /// A file: the ranges of its variables, the start, transitions, the property with its a, b and
-/// truths, the nodes, a ranked chain's with their ranks, and edges: transition, from, to, d.
+/// truths, the nodes, and edges: transition, from, to, d.
 fn file(
     ranges: &[(i16, i16)],
     start: Records,

@@ -4,60 +4,60 @@ use super::{acceptance, answers, file, refusal, tests, Records};
 use differential::generate::record;
 use independent::{Tested, Verdict};
 
-pub fn r(kind: u8, a: u8) -> [u8; 8] {
+fn r(kind: u8, a: u8) -> [u8; 8] {
     record(kind, a, 0, 0, 0)
 }
 
-pub fn constant(value: i16) -> [u8; 8] {
+fn constant(value: i16) -> [u8; 8] {
     record(0x10, 0, value, 0, 0)
 }
 
-pub fn always() -> Records {
+fn always() -> Records {
     vec![r(0x20, 0)]
 }
 
-pub fn never() -> Records {
+fn never() -> Records {
     vec![r(0x21, 0)]
 }
 
 /// Compares a variable with a constant.
-pub fn compare(kind: u8, variable: u8, value: i16) -> Records {
+fn compare(kind: u8, variable: u8, value: i16) -> Records {
     vec![r(kind, 0), r(0x11, variable), constant(value)]
 }
 
-pub fn equal(variable: u8, value: i16) -> Records {
+fn equal(variable: u8, value: i16) -> Records {
     compare(0x27, variable, value)
 }
 
-pub fn not(truth: &Records) -> Records {
+fn not(truth: &Records) -> Records {
     [vec![r(0x22, 0)], truth.clone()].concat()
 }
 
-pub fn both(left: &Records, right: &Records) -> Records {
+fn both(left: &Records, right: &Records) -> Records {
     [vec![r(0x23, 0)], left.clone(), right.clone()].concat()
 }
 
-pub fn pick(variable: u8, low: i16, high: i16) -> Records {
+fn pick(variable: u8, low: i16, high: i16) -> Records {
     vec![record(0x08, variable, low, high, 0)]
 }
 
-pub fn assign(variable: u8, number: &[[u8; 8]]) -> Records {
+fn assign(variable: u8, number: &[[u8; 8]]) -> Records {
     [&[r(0x04, variable)], number].concat()
 }
 
 /// A variable and something added.
-pub fn plus(variable: u8, added: i16) -> Records {
+fn plus(variable: u8, added: i16) -> Records {
     vec![r(0x12, 0), r(0x11, variable), constant(added)]
 }
 
 /// A transition, just or not: its guard, then its assignments and picks.
-pub fn step(just: u8, guard: Records, sets: &[Records]) -> Records {
+fn step(just: u8, guard: Records, sets: &[Records]) -> Records {
     [vec![r(0x03, just)], guard, sets.concat()].concat()
 }
 
 /// A step condition is broken: node, transition, condition, the values, and the tests.
 #[track_caller]
-pub fn broken(file: &[u8], number: u8, of: (u8, u8), at: u32, values: &[i16], tests: u64) {
+fn broken(file: &[u8], number: u8, of: (u8, u8), at: u32, values: &[i16], tests: u64) {
     let mut all = [0; 12];
     all[..values.len()].copy_from_slice(values);
     let (node, transition) = of;
@@ -74,7 +74,7 @@ pub fn broken(file: &[u8], number: u8, of: (u8, u8), at: u32, values: &[i16], te
 
 /// Whether the condition holds, state by state.
 #[track_caller]
-pub fn holds(file: &[u8], condition: usize, expected: &[bool]) {
+fn holds(file: &[u8], condition: usize, expected: &[bool]) {
     for (state, &holds) in expected.iter().enumerate() {
         let expected = if holds { Tested::Holds } else { Tested::Fails };
         tests(file, condition, state, expected);

@@ -137,8 +137,7 @@ fn fields() {
     let property = |a, b| with(chain(), 9..10, &[record(0x05, a, b, 0, 0)]);
     for (a, b) in [
         (0, 0),
-        (4, 1),
-        (5, 0),
+        (4, 0),
         (1, 1),
         (3, 2),
         (2, 0),

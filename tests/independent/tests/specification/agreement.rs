@@ -5,7 +5,6 @@ use crate::builder::{count, verdict, Bytes};
 use crate::division::{by_pairs, going_round};
 use crate::examples::*;
 use crate::picks::{bits, falling, meeting, wide};
-use crate::ranks::{counting_down, picking_lower, taking_turns};
 use independent::{check, read, single, Tested, Verdict};
 
 /// x := 1664525 x + 1013904223, low 32 bits; the upper ones are handed out.
@@ -22,8 +21,7 @@ pub fn examples() -> Vec<Bytes> {
     let small = [a(), b(), c(), d(), e(), f(), g(), h(), i(), j()];
     let divided = [going_round(), by_pairs()];
     let picked = [bits(), meeting(), falling(), wide()];
-    let ranked = [counting_down(), taking_turns(), picking_lower()];
-    [&small[..], &divided, &picked, &ranked].concat()
+    [&small[..], &divided, &picked].concat()
 }
 
 /// A few small changes: bytes set, records doubled, dropped or taken from elsewhere.
@@ -108,7 +106,7 @@ fn values(file: &independent::File, mut number: usize) -> [i16; 12] {
 fn the_check_agrees_with_the_single_tests() {
     let mut random = Random(1);
     let (files, mut seen) = (examples(), [0; 23]);
-    for round in 0..60_000 {
+    for round in 0..20_000 {
         let file = changed(files[round % files.len()].clone(), &mut random);
         if read(&file).map_or(false, |file| file.states() > 500) {
             continue;
@@ -117,7 +115,7 @@ fn the_check_agrees_with_the_single_tests() {
         assert_eq!(verdict, by_single_tests(&file));
         seen[usize::from(verdict.number)] += 1;
     }
-    for number in [0, 3, 4, 6, 9, 10, 13, 14, 15, 16, 17, 18, 19, 20, 21, 22] {
+    for number in [0, 3, 4, 6, 9, 10, 13, 14, 15, 16, 17, 18, 19, 20, 22] {
         assert!(seen[number] > 0, "{number} not seen: {seen:?}");
     }
 }

@@ -139,17 +139,8 @@ pub fn chain(p: Bytes, q: Bytes) -> Bytes {
     [record(0x05, 3, 0, 0, 0), p, q].concat()
 }
 
-pub fn ranked_chain(p: Bytes, q: Bytes) -> Bytes {
-    [record(0x05, 4, 0, 0, 0), p, q].concat()
-}
-
 pub fn node(assertion: Bytes) -> Bytes {
     with(0x06, &[assertion])
-}
-
-/// A ranked chain's node.
-pub fn ranked_node(assertion: Bytes, rank: Bytes) -> Bytes {
-    with(0x06, &[assertion, rank])
 }
 
 pub fn single_edge(transition: u8, from: i16, to: i16) -> Bytes {

@@ -2,7 +2,6 @@
 
 use crate::builder::*;
 use crate::examples;
-use crate::ranks::counting_down;
 use independent::{read, single, Claim, Condition, Tested};
 
 fn conditions(file: &[u8]) -> Vec<Condition> {
@@ -18,13 +17,12 @@ fn set(just: u8, number: Bytes) -> Bytes {
     transition(just, yes(), &[assign(0, number)])
 }
 
-/// C8.3, C8.4, C8.5, C8.6, C8.16.
+/// C8.3, C8.4, C8.5, C8.6.
 #[test]
 fn conditions_in_order() {
     assert_eq!(numbers(&examples::b()), [13, 15, 16, 17]);
     assert_eq!(numbers(&examples::d()), [14, 15, 16, 17, 18, 16, 17, 18]);
     assert_eq!(numbers(&examples::h()), [14, 15, 15, 15, 16, 17, 16, 17]);
-    assert_eq!(numbers(&counting_down()), [14, 15, 21, 16, 17, 18]);
 }
 
 /// C8.3, C8.6: enabling only where the transition has double edges from the node.
@@ -62,19 +60,9 @@ fn totals() {
             let file = join(&[system.clone(), phases, nodes.clone()]);
             assert_eq!(unnamed(&file), (0, (1 + n + 2 * (n - 1) * t) as u32));
             let doubles: Vec<Bytes> = (1..n as i16).map(|from| double_edge(0, from, 0)).collect();
-            let file = join(&[system.clone(), chain(yes(), yes()), nodes, join(&doubles)]);
+            let file = join(&[system, chain(yes(), yes()), nodes, join(&doubles)]);
             if t > 0 {
                 assert_eq!(unnamed(&file), (0, (2 + 2 * (n - 1) * t + (n - 1)) as u32));
-            }
-            let ranked = join(&[
-                system,
-                ranked_chain(yes(), yes()),
-                ranked_node(yes(), constant(0)).repeat(n),
-                join(&doubles),
-            ]);
-            if t > 0 {
-                let total = 2 + 2 * (n - 1) + 2 * (n - 1) * t;
-                assert_eq!(unnamed(&ranked), (0, total as u32));
             }
         }
     }
@@ -86,7 +74,6 @@ fn the_property_is_told() {
     let claim = |file: Bytes| read(&file).unwrap().claim;
     assert!(matches!(claim(examples::b()), Claim::Invariance { .. }));
     assert!(matches!(claim(examples::d()), Claim::Chain { .. }));
-    assert!(matches!(claim(counting_down()), Claim::RankedChain { .. }));
     match claim(examples::h()) {
         Claim::WaitFor { q, .. } => assert_eq!(q.len(), 3),
         other => panic!("{other:?}"),

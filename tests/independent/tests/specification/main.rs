@@ -9,7 +9,6 @@ mod division;
 mod examples;
 mod limits;
 mod picks;
-mod ranks;
 mod refusals;
 mod runs;
 mod start;

@@ -1,5 +1,4 @@
-//! Refusals 3 to 12: numbers, places, order. 19 is in division.rs, 20 in start.rs, 21 in ranks.rs,
-//! 22 in picks.rs.
+//! Refusals 3 to 12: numbers, places, order. 19 is in division.rs, 20 in start.rs, 22 in picks.rs.
 
 use crate::builder::*;
 use crate::examples;
@@ -106,8 +105,8 @@ fn justice_is_0_or_1() {
 
 /// C1.10, C10.4.
 #[test]
-fn a_property_has_one_of_four_kinds() {
-    for a in [0, 5, 255] {
+fn a_property_has_one_of_three_kinds() {
+    for a in [0, 4, 255] {
         let file = join(&[counter(), record(0x05, a, 0, 0, 0), yes(), node(yes())]);
         assert_eq!(unnamed(&file), (4, 5));
     }

@@ -2,7 +2,7 @@
 
 use crate::agreement::{changed, examples, Random};
 use crate::builder::*;
-use independent::{enabled, number, read, states, successors, truth};
+use independent::{enabled, read, states, successors, truth};
 use independent::{Claim, File, State, Transition, Truth};
 
 const POSITIONS: usize = 6;
@@ -71,29 +71,6 @@ fn comes(file: &File, run: &[State], q: &Truth) -> bool {
     (1..=3).all(in_time) && (!just(file, run) || within(run.len() - 1))
 }
 
-/// C7.11: nothing where no node is true, or where the least rank is below 0.
-fn distance(file: &File, state: &State, k: usize) -> Option<usize> {
-    if truth(&file.nodes[0], state) {
-        return Some(0);
-    }
-    let nodes = file.nodes.iter().zip(&file.ranks).skip(1);
-    let ranks = nodes.filter(|(node, _)| truth(node, state));
-    let least = ranks.map(|(_, rank)| number(rank, state)).min()?;
-    usize::try_from(least).ok().map(|rank| (rank + 1) * k)
-}
-
-/// C7.12, C7.13 from the run's first position.
-fn arrives(file: &File, run: &[State], q: &Truth) -> bool {
-    let there = |state: &State| truth(&file.nodes[0], state) && truth(q, state);
-    let within = |end: usize| run[..=end].iter().any(there);
-    let in_time = |k| match distance(file, &run[0], k) {
-        Some(end) if end < run.len() => !k_just(file, &run[..=end], k) || within(end),
-        Some(_) => true,
-        None => false,
-    };
-    (1..=3).all(in_time) && (!just(file, run) || within(run.len() - 1))
-}
-
 /// C7.8.
 fn in_range(file: &File, state: &State) -> bool {
     let goals = usize::from(!matches!(file.claim, Claim::Invariance { .. }));
@@ -112,7 +89,6 @@ fn claimed(file: &File, run: &[State]) -> bool {
             }
             Claim::WaitFor { p, q } => !truth(p, &run[0]) || waits(run, q),
             Claim::Chain { p, q } => !truth(p, &run[0]) || comes(file, run, q),
-            Claim::RankedChain { p, q } => !truth(p, &run[0]) || arrives(file, run, q),
         }
 }
 
@@ -123,9 +99,9 @@ fn what_accepted_files_claim_is_true() {
     let mut random = Random(3);
     let one_phase = join(&[counter(), idle(0), wait_for(is(0), &[is(0)]), node(is(0))]);
     let files = [examples(), vec![one_phase]].concat();
-    let (mut accepted, mut false_claims) = ([0; 5], [0; 5]);
+    let (mut accepted, mut false_claims) = ([0; 4], [0; 4]);
     // Of those, files where a transition has several successors.
-    let (mut accepted_picks, mut false_picks) = ([0; 5], [0; 5]);
+    let (mut accepted_picks, mut false_picks) = ([0; 4], [0; 4]);
     for round in 0..40_000 {
         let bytes = changed(files[round % files.len()].clone(), &mut random);
         let file = match read(&bytes) {
@@ -139,7 +115,6 @@ fn what_accepted_files_claim_is_true() {
             Claim::WaitFor { q, .. } if q.len() == 1 => 1,
             Claim::WaitFor { .. } => 2,
             Claim::Chain { .. } => 3,
-            Claim::RankedChain { .. } => 4,
         };
         let several = file.transitions.iter().any(|one| one.combinations() > 1);
         if verdict(&bytes).number == 0 {
@@ -156,7 +131,7 @@ fn what_accepted_files_claim_is_true() {
     assert!(accepted.iter().all(|seen| *seen >= 10), "{accepted:?}");
     for several in [accepted_picks, false_picks] {
         let seen = |kind: usize| several[kind] >= 10;
-        assert!([0, 2, 3, 4].into_iter().all(seen), "{several:?}");
+        assert!([0, 2, 3].into_iter().all(seen), "{several:?}");
     }
     assert!(
         false_claims.iter().all(|seen| *seen > 0),

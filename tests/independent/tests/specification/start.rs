@@ -5,22 +5,20 @@ use crate::builder::*;
 use independent::{check, read, single, states, truth, Refusal, Tested};
 
 /// What a file of each property answers that is accepted, but for its start.
-fn answers(ranges: &[Bytes], truth: Bytes) -> [(u8, u32); 4] {
+fn answers(ranges: &[Bytes], truth: Bytes) -> [(u8, u32); 3] {
     files(ranges, truth).map(|file| unnamed(&file))
 }
 
-const REFUSED: [(u8, u32); 4] = [(20, 0); 4];
+const REFUSED: [(u8, u32); 3] = [(20, 0); 3];
 /// The totals, with one transition.
-const ACCEPTED: [(u8, u32); 4] = [(0, 4), (0, 5), (0, 5), (0, 6)];
+const ACCEPTED: [(u8, u32); 3] = [(0, 4), (0, 5), (0, 5)];
 
-fn files(ranges: &[Bytes], truth: Bytes) -> [Bytes; 4] {
+fn files(ranges: &[Bytes], truth: Bytes) -> [Bytes; 3] {
     let two = || node(yes()).repeat(2);
-    let ranked = || ranked_node(yes(), constant(0)).repeat(2);
     [
         join(&[invariance(yes()), node(yes())]),
         join(&[wait_for(yes(), &[yes(), yes()]), two()]),
         join(&[chain(yes(), yes()), two(), double_edge(0, 1, 0)]),
-        join(&[ranked_chain(yes(), yes()), ranked(), double_edge(0, 1, 0)]),
     ]
     .map(|claim| join(&[join(ranges), start(truth.clone()), idle(1), claim]))
 }

@@ -2,11 +2,7 @@
 -- Assumes nothing.
 use borrow.Author.Rules.{rules}
 use mathlib.Core.Path.{refl, sym, ◌∙◌}
-use Rattle.expressions.proofs.Laws.Numbers.{more_fit}
-use Rattle.domains.proofs.Laws.Extent.{extent_bounded}
-use Rattle.enclosures.proofs.Laws.Enclosure.{at_bounded}
-use Rattle.testing.proofs.Steps.Testing.{premise_in, own_in, targets_in, transition_in, reached_in, rank_in, in_some, in_rank, in_range_lem, in_idle}
-use Rattle.testing.proofs.Steps.Testing.{in_reached, in_enabled}
+use Rattle.testing.proofs.Steps.Testing.{targets_in, transition_in, reached_in, in_some, in_range_lem, in_idle, in_reached, in_enabled}
 use Rattle.testing.proofs.tests.concludes_in.Statement.{statement}
 use Rattle.testing.proofs.tests.concludes_in.Tie as tie
 
@@ -19,36 +15,17 @@ some-in-requires c κs = let p = c.before.before.before.before.requires in (p.0,
 enum-told-2 : tie.Need-enum-told-2
 enum-told-2 c = search rules
 
-rank-place-requires : tie.Need-rank-place-requires
-rank-place-requires c κs =
-    let p = c.before.before.before.before.requires in
-    (p.0, (p.1.0.some c.enum-told2.given.1, (_, (premise_in p.1.0 p.1.1, own_in p.1.0 p.1.1))))
-
-extent-at-requires : tie.Need-extent-at-requires
-extent-at-requires c κs =
-    let p = c.before.before.before.before.before.requires in
-    (rw c.rank-place.ensures (more_fit _ _ _ 0 (rank_in p.1.0 p.1.1 c.before.enum-told2.given.1)).0, p.0)
-
-spanning-requires : tie.Need-spanning-requires
-spanning-requires c κs = search rules
-
-at-most-requires : tie.Need-at-most-requires
-at-most-requires c κs = (rw c.spanning.ensures (extent_bounded _ _ _), rw c.before.extent-at.ensures (at_bounded _ _ _))
-
-enum-told-3 : tie.Need-enum-told-3
-enum-told-3 c = search rules
-
 next-in-requires : tie.Need-next-in-requires
-next-in-requires c κs = let p = c.before.before.before.before.requires in (p.0, transition_in p.1.0 p.1.1 c.enum-told3.given.1 refl)
+next-in-requires c κs = let p = c.before.before.before.before.requires in (p.0, transition_in p.1.0 p.1.1 c.enum-told2.given.1 refl)
 
 implies-requires : tie.Need-implies-requires
 implies-requires c κs = search rules
 
-enum-told-4 : tie.Need-enum-told-4
-enum-told-4 c = search rules
+enum-told-3 : tie.Need-enum-told-3
+enum-told-3 c = search rules
 
 next-in-requires-2 : tie.Need-next-in-requires-2
-next-in-requires-2 c κs = let p = c.before.before.before.before.requires in (p.0, transition_in p.1.0 p.1.1 c.enum-told4.given.1 refl)
+next-in-requires-2 c κs = let p = c.before.before.before.before.requires in (p.0, transition_in p.1.0 p.1.1 c.enum-told3.given.1 refl)
 
 both-requires : tie.Need-both-requires
 both-requires c κs = search rules
@@ -59,21 +36,21 @@ never-requires c κs = search rules
 returns : tie.Need-returns
 returns c =
     in_idle _ _ _ _ c.before.before.before.before.next-in2.ensures c.before.before.both.ensures
-    c.before.before.before.before.before.enum-told4.given.1 (sym c.before.never.ensures ∙ c.if1.true)
+    c.before.before.before.before.before.enum-told3.given.1 (sym c.before.never.ensures ∙ c.if1.true)
 
-leads-in-requires : tie.Need-leads-in-requires
-leads-in-requires c κs =
+some-in-requires-2 : tie.Need-some-in-requires-2
+some-in-requires-2 c κs =
     let p = c.before.before.before.before.before.before.before.before.before.requires in
-    (p.0, reached_in p.1.0 p.1.1 c.before.before.before.before.next-in2.ensures)
+    (p.0, (p.1.0.few, reached_in p.1.0 p.1.1 c.before.before.before.before.next-in2.ensures))
 
 implies-requires-2 : tie.Need-implies-requires-2
 implies-requires-2 c κs = search rules
 
-enum-told-5 : tie.Need-enum-told-5
-enum-told-5 c = search rules
+enum-told-4 : tie.Need-enum-told-4
+enum-told-4 c = search rules
 
 next-in-requires-3 : tie.Need-next-in-requires-3
-next-in-requires-3 c κs = let p = c.before.before.before.before.requires in (p.0, transition_in p.1.0 p.1.1 c.enum-told5.given.1 refl)
+next-in-requires-3 c κs = let p = c.before.before.before.before.requires in (p.0, transition_in p.1.0 p.1.1 c.enum-told4.given.1 refl)
 
 both-requires-2 : tie.Need-both-requires-2
 both-requires-2 c κs = search rules
@@ -82,21 +59,16 @@ returns-2 : tie.Need-returns-2
 returns-2 c = c.some_in.ensures ∙ in_some _ _ _ _ c.before.enum_told.given.1
 
 returns-3 : tie.Need-returns-3
-returns-3 c =
-    c.at_most.ensures
-    ∙ in_rank _ _ _ _ c.before.before.before.before.enum-told2.given.1 c.before.before.before.rank-place.ensures c.before.spanning.ensures c.before.before.extent-at.ensures
+returns-3 c = c.implies.ensures ∙ in_range_lem _ _ _ _ c.before.next-in.ensures c.before.before.enum-told2.given.1
 
 returns-4 : tie.Need-returns-4
-returns-4 c = c.implies.ensures ∙ in_range_lem _ _ _ _ c.before.next-in.ensures c.before.before.enum-told3.given.1
-
-returns-5 : tie.Need-returns-5
-returns-5 c =
+returns-4 c =
     c.implies2.ensures
     ∙ in_reached _ _ _ _ c.before.before.before.before.before.before.next-in2.ensures c.before.before.before.before.both.ensures
-    c.before.before.before.before.before.before.before.enum-told4.given.1 c.before.leads-in.ensures
+    c.before.before.before.before.before.before.before.enum-told3.given.1 c.before.some-in2.ensures
 
-returns-6 : tie.Need-returns-6
-returns-6 c = c.both2.ensures ∙ in_enabled _ _ _ _ c.before.next-in3.ensures c.before.before.enum-told5.given.1
+returns-5 : tie.Need-returns-5
+returns-5 c = c.both2.ensures ∙ in_enabled _ _ _ _ c.before.next-in3.ensures c.before.before.enum-told4.given.1
 
 pub concludes-in-spec : {M : Type 1} → statement M
 concludes-in-spec =
@@ -105,25 +77,19 @@ concludes-in-spec =
     enum_told
     some-in-requires
     enum-told-2
-    rank-place-requires
-    extent-at-requires
-    spanning-requires
-    at-most-requires
-    enum-told-3
     next-in-requires
     implies-requires
-    enum-told-4
+    enum-told-3
     next-in-requires-2
     both-requires
     never-requires
     returns
-    leads-in-requires
+    some-in-requires-2
     implies-requires-2
-    enum-told-5
+    enum-told-4
     next-in-requires-3
     both-requires-2
     returns-2
     returns-3
     returns-4
-    returns-5
-    returns-6)
+    returns-5)

@@ -40,7 +40,7 @@ returns : tie.Need-returns invariant-loop decreases-loop
 returns c =
     sym
     (sym c.before.before.before.loop.invariant.1
-    ∙ some_here _ _ _ (enough c.before.before.before.before.before) _ c.before.before.loop-test.true
+    ∙ some_here _ _ _ _ (enough c.before.before.before.before.before) _ c.before.before.loop-test.true
     (sym c.before.holds.ensures ∙ c.if1.true))
 
 add-i : tie.Need-overflow-add-i invariant-loop decreases-loop
@@ -52,13 +52,13 @@ loop-less c = search rules
 loop-again : tie.Need-loop-preserved invariant-loop decreases-loop
 loop-again c = (
   omega arith,
-  sym (some_later _ _ _ (enough c.before.before.before.before.before) _ c.before.before.loop-test.true
+  sym (some_later _ _ _ _ (enough c.before.before.before.before.before) _ c.before.before.loop-test.true
       (sym c.before.holds.ensures ∙ c.if1.false))
       ∙ c.before.before.before.loop.invariant.1,
 )
 
 returns-2 : tie.Need-returns-2 invariant-loop decreases-loop
-returns-2 c = sym (sym c.before.loop.invariant.1 ∙ some_end _ _ _ (enough c.before.before.before) _ c.loop-test.false)
+returns-2 c = sym (sym c.before.loop.invariant.1 ∙ some_end _ _ _ _ (enough c.before.before.before) _ c.loop-test.false)
 
 pub some-holds-spec : {M : Type 1} → statement M
 some-holds-spec =

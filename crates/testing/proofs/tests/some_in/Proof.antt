@@ -46,7 +46,7 @@ sure-requires c κs = search rules
 
 returns : tie.Need-returns invariant-loop decreases-loop
 returns c =
-    in_sure _ _ _ (enough c.before.before.before.before.before.before.before) _ _ _ c.before.before.before.before.before.loop.invariant.1
+    in_sure _ _ _ _ (enough c.before.before.before.before.before.before.before) _ _ c.before.before.before.before.before.loop.invariant.1
     c.before.before.before.before.loop-test.true c.before.before.before.seen-in.ensures c.before.before.either.ensures
     (sym c.before.sure.ensures ∙ c.if1.true)
 
@@ -59,12 +59,12 @@ loop-less c = search rules
 loop-again : tie.Need-loop-preserved invariant-loop decreases-loop
 loop-again c = (
   omega arith,
-  in_later _ _ _ (enough c.before.before.before.before.before.before.before) _ _ _ c.before.before.before.before.before.loop.invariant.1
+  in_later _ _ _ _ (enough c.before.before.before.before.before.before.before) _ _ c.before.before.before.before.before.loop.invariant.1
       c.before.before.before.before.loop-test.true c.before.before.before.seen-in.ensures c.before.before.either.ensures,
 )
 
 returns-2 : tie.Need-returns-2 invariant-loop decreases-loop
-returns-2 c = in_end _ _ _ (enough c.before.before.before) _ _ _ c.before.loop.invariant.1 c.loop-test.false
+returns-2 c = in_end _ _ _ _ (enough c.before.before.before) _ _ c.before.loop.invariant.1 c.loop-test.false
 
 pub some-in-spec : {M : Type 1} → statement M
 some-in-spec =

@@ -1,3 +1,0 @@
--- The ranks of a node, and how they compare.
-pub mod Order
-pub mod Compare

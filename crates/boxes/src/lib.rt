@@ -1,10 +1,11 @@
 // Boxes of states: all states between a low and a high end in each variable. The ranges of a file's variables are such a box too.
+#![tactic(auto)]
 ghost use Rattle.std.specs.Prelude.{◌≡◌, ◌<◌, pos, get_or, ◌<ℤ◌};
 ghost use Rattle.boxes.specs.Half.{wide_of, choice_of, lower_of, upper_of};
 
 use integers::radix::{offset_of, value_at};
 
-#[derive(Drop)]
+#[derive(Clone, Copy)]
 pub struct Box {
     pub low: [i16; 12],
     pub high: [i16; 12],

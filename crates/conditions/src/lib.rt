@@ -1,4 +1,5 @@
 // The verification conditions of a diagram: how many there are, and the condition of a number.
+#![tactic(auto)]
 ghost use Rattle.std.specs.Prelude.{◌≡◌, ◌≤◌, ◌<◌};
 ghost use Rattle.diagrams.specs.Diagram.{Loaded};
 ghost use Rattle.conditions.specs.Condition.{opening_of, total_of, condition_at, refusal_number, node_number, transition_number};
@@ -8,7 +9,7 @@ use diagrams::{Diagram, edge_of};
 use shapes::{double_from, property_of};
 
 // A condition, by its node and its transition.
-#[derive(Drop)]
+#[derive(Clone, Copy)]
 pub enum Condition {
     Start,
     Entry,
@@ -19,7 +20,7 @@ pub enum Condition {
 }
 
 // How the conditions behind the first are laid out: the covers of `covers` nodes, then `size` conditions of each node from `from` up.
-#[derive(Drop)]
+#[derive(Clone, Copy)]
 pub struct Blocks {
     pub covers: usize,
     pub from: usize,

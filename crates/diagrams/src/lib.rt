@@ -1,4 +1,5 @@
 // The diagram of a file, with its system, as judging speaks of them. What doesn't depend on a state is looked up once.
+#![tactic(auto)]
 ghost use Rattle.std.specs.Prelude.{◌≡◌, ℕ, ◌≤◌, ◌<◌, get_or};
 ghost use Rattle.shapes.specs.declared.Reading.{Reading};
 ghost use Rattle.diagrams.specs.Diagram.{found_of, assertions_of, diagram_of, Loaded, edge_of};
@@ -13,7 +14,7 @@ use states::count;
 
 // What is looked up once: the variables' ranges and how many states there are; the records of the start's expression, of the transitions, of the property's
 // first expression, of the nodes' assertions and of the first edge; how many transitions, nodes and edges there are; and what the property claims.
-#[derive(Drop)]
+#[derive(Clone, Copy)]
 pub struct Diagram {
     pub vars: usize,
     pub low: [i16; 12],

@@ -7,7 +7,7 @@ use crate::seen::{Seen, both, opposite};
 use integers::Interval;
 use intervals::combined;
 
-#[derive(Drop)]
+#[derive(Clone, Copy)]
 pub struct Extent {
     pub span: Interval,
     pub widest: usize,

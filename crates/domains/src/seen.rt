@@ -3,7 +3,7 @@
 ghost use Rattle.std.specs.Prelude.{◌≡◌};
 ghost use Rattle.domains.specs.Seen.{opposite_of, both_of, either_of, implies_in, implied_in, same_of, connect_in, decides_of, never_of, sure_of};
 
-#[derive(Drop)]
+#[derive(Clone, Copy)]
 pub enum Seen {
     Yes,
     No,

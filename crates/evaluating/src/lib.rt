@@ -1,4 +1,5 @@
 // What a transition does at a state. A transition stands at a record; its guard follows, then its updates.
+#![tactic(auto)]
 ghost use Rattle.std.specs.Prelude.{◌≡◌, true, ◌+◌, ◌*◌, ◌/◌, ◌<◌, ◌≤◌, length, set};
 ghost use Rattle.records.specs.Kind.{number as number_sort};
 ghost use Rattle.expressions.specs.Expression.{part_at};
@@ -14,7 +15,7 @@ use records::{byte_at, kind_is, wide_value_at};
 use sections::is_update;
 
 // A variable, the lowest and the highest of the values that it may be given, and the record behind the update. An assignment gives it one value.
-#[derive(Drop)]
+#[derive(Clone, Copy)]
 pub struct Update {
     pub variable: usize,
     pub low: i64,
@@ -23,7 +24,7 @@ pub struct Update {
 }
 
 // Whether all values lie in range, and then the ends between which the variables' values lie, else the state as it was for both.
-#[derive(Drop)]
+#[derive(Clone, Copy)]
 pub struct Updated {
     pub fits: bool,
     pub low: [i16; 12],
@@ -32,7 +33,7 @@ pub struct Updated {
 
 // A transition at a state: whether its guard is true, whether it is enabled, and then the ends between which its successors lie, else the state as it was
 // for both.
-#[derive(Drop)]
+#[derive(Clone, Copy)]
 pub struct Stepped {
     pub guard: bool,
     pub enabled: bool,

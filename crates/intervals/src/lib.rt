@@ -1,4 +1,5 @@
 // The interval of every number expression, from the variables' ranges: refusal 8.
+#![tactic(auto)]
 ghost use Rattle.std.specs.Prelude.{◌≡◌, ◌+◌, ◌*◌, ◌≤◌, pos, length, ◌≤ℤ◌};
 ghost use Rattle.integers.specs.Interval.{over_ends};
 ghost use Rattle.integers.specs.Inside.{Bounded};
@@ -12,7 +13,7 @@ use records::walk::Walked;
 use records::wide_value_at;
 
 // The interval of an expression and the record behind it, or the record whose own interval is out of bounds.
-#[derive(Drop)]
+#[derive(Clone, Copy)]
 pub enum Analysis {
     Within(Interval, usize),
     Out(usize),

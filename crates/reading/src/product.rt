@@ -41,7 +41,7 @@ pub fn states(file: &[u8], vars: usize) -> Walked
 }
 
 // The record of the transition met last, and how many combinations its picks so far have.
-#[derive(Drop)]
+#[derive(Clone, Copy)]
 pub struct Combined {
     pub place: usize,
     pub product: usize,

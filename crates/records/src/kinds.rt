@@ -20,7 +20,7 @@ pub fn sort_for(want: u8) -> u8
 }
 
 // A kind's own sort, how many operands follow, and the sorts of the first and of the second.
-#[derive(Drop)]
+#[derive(Clone, Copy)]
 pub struct Signature {
     pub sort: u8,
     pub operands: usize,

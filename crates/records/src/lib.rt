@@ -1,4 +1,5 @@
 // Records of 8 bytes, and their fields.
+#![tactic(auto)]
 pub mod kinds;
 pub mod walk;
 

@@ -6,7 +6,7 @@ use crate::kinds::{DIVISOR, TRUTH, signature_at, sort_for};
 use crate::{value_at, zeros};
 
 // Where the walk of a part of the file ends: at the record behind it, or refused, with the number and the record.
-#[derive(Drop)]
+#[derive(Clone, Copy)]
 pub enum Walked {
     End(usize),
     Refused(u8, usize),

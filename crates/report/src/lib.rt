@@ -1,4 +1,5 @@
 // The report of a verdict: 32 bytes.
+#![tactic(auto)]
 ghost use Rattle.std.specs.Prelude.{◌≡◌, ◌++◌, ◌≤◌, length, take, drop};
 ghost use Rattle.report.specs.Report.{value_bytes, report_of};
 
@@ -7,7 +8,7 @@ use integers::bytes::{high_byte, low_byte};
 // The number of the refusal, or 0; the broken condition's node and transition, 255 for none; the condition, a refusal's place, or the total; the values
 // of the state that breaks the condition. Beside what is reported, the tests made.
 #[repr(C)]
-#[derive(Drop)]
+#[derive(Clone, Copy)]
 pub struct Verdict {
     pub number: u8,
     pub node: u8,

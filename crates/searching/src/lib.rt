@@ -1,4 +1,5 @@
 // Whether a condition holds at every state, by whole boxes of them: a box for which that is not seen at once is halved, a single state is tested.
+#![tactic(auto)]
 pub mod budget;
 pub mod scan;
 pub mod start;
@@ -21,21 +22,21 @@ use testing::tests::{passes, passes_in};
 const HALVINGS: usize = 32;
 
 // What is searched for a state that breaks it: the ranges of the variables, and a condition prepared for its tests.
-#[derive(Drop)]
+#[derive(Clone, Copy)]
 pub struct Search {
     pub ranges: Box,
     pub test: Test,
 }
 
 // Whether the condition is seen to hold at every state of a box, and how many boxes may still be looked at.
-#[derive(Drop)]
+#[derive(Clone, Copy)]
 pub struct Decided {
     pub sure: bool,
     pub left: usize,
 }
 
 // A state, and its number: the condition holds at every state before it. Where it holds at all of them, the number is how many there are.
-#[derive(Drop)]
+#[derive(Clone, Copy)]
 pub struct Skipped {
     pub state: [i16; 12],
     pub number: usize,

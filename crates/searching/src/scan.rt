@@ -21,7 +21,7 @@ use testing::tests::concludes;
 const UNASKED: usize = 1048577;
 
 // How far a loop over the states has come: to this state, which has this number; boxes are asked from that number on.
-#[derive(Drop)]
+#[derive(Clone, Copy)]
 pub struct Scan {
     pub state: [i16; 12],
     pub number: usize,

@@ -1,4 +1,5 @@
 // The sections of a file: variables, transitions, property, nodes and edges, with the refusals 3 to 6 of their records and 19 of their expressions'.
+#![tactic(auto)]
 ghost use Rattle.std.specs.Prelude.{◌≡◌, ℕ, ◌+◌, ◌*◌, ◌/◌, ◌≤◌, ◌<◌, length, replicate};
 ghost use Rattle.records.specs.Place.{places_of};
 ghost use Rattle.sections.specs.Section.{variable_fields, transition_fields, assignment_fields, pick_fields, property_fields, edge_fields};
@@ -12,7 +13,7 @@ use records::{byte_at, kind_is, same_bytes, value_at, word_at, zeros};
 use shapes::{Claim, Edge, claim_of, property_of};
 
 // Where a section ends: how many items it has and the record behind it, or refused, with the number and the record.
-#[derive(Drop)]
+#[derive(Clone, Copy)]
 pub enum Section {
     Items(usize, usize),
     Refused(u8, usize),
@@ -20,7 +21,7 @@ pub enum Section {
 
 // What the items of a section are, and what their records may name: a transition and a node one of so many variables, an edge one of so many
 // transitions and nodes. A node has its number of ranks as well. An edge has the first edge's record as well, from which on none may be the same.
-#[derive(Drop)]
+#[derive(Clone, Copy)]
 enum Item {
     Variable,
     Transition(usize),

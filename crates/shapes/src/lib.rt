@@ -1,10 +1,11 @@
 // What every layer speaks of, as values: what a property asks, a row of a table; an edge; where the parts of a file stand; and what reading a file answers.
+#![tactic(auto)]
 ghost use Rattle.std.specs.Prelude.{◌≡◌};
 ghost use Rattle.shapes.specs.Property.{claim_of, property_of};
 ghost use Rattle.shapes.specs.Edge.{double_from};
 
 // What a property claims.
-#[derive(Drop)]
+#[derive(Clone, Copy)]
 pub enum Claim {
     Invariance,
     WaitFor,
@@ -17,7 +18,7 @@ pub enum Claim {
 // entry is the first condition; else start is. covered: each node is covered; else node 0 alone. from: the first node with range and step conditions, and
 // the first that edges lead from. rising: an edge may lead up. doubles: edges may be double, and each node from there on has a double one.
 // ranks: how many numbers follow a node's assertion.
-#[derive(Drop)]
+#[derive(Clone, Copy)]
 pub struct Property {
     pub known: bool,
     pub phased: bool,
@@ -30,7 +31,7 @@ pub struct Property {
 }
 
 // An edge: its transition, the nodes that it leads from and to, and whether it is double.
-#[derive(Drop)]
+#[derive(Clone, Copy)]
 pub struct Edge {
     pub transition: usize,
     pub from: usize,
@@ -39,7 +40,7 @@ pub struct Edge {
 }
 
 // Where the parts of a file stand, as record numbers, and how many of each there are. The start is at record `vars`.
-#[derive(Drop)]
+#[derive(Clone, Copy)]
 pub struct Outline {
     pub vars: usize,
     pub transition: usize,
@@ -52,7 +53,7 @@ pub struct Outline {
 }
 
 // The outline of a file, or the refusal that meets it, with its number and its place.
-#[derive(Drop)]
+#[derive(Clone, Copy)]
 pub enum Reading {
     Found(Outline),
     Refused(u8, usize),

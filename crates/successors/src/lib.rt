@@ -1,4 +1,5 @@
 // Where a transition leads from a box of states. A transition stands at a record; its guard follows, then its updates.
+#![tactic(auto)]
 ghost use Rattle.std.specs.Prelude.{◌≡◌, ◌+◌, ◌*◌, ◌/◌, ◌<◌, ◌≤◌, length, set};
 ghost use Rattle.integers.specs.Inside.{Bounded};
 ghost use Rattle.records.specs.Kind.{number as number_sort};
@@ -19,7 +20,7 @@ use records::{byte_at, kind_is, value_at};
 use sections::is_update;
 
 // A variable, what is known of the values that it may be given, and the record behind the update.
-#[derive(Drop)]
+#[derive(Clone, Copy)]
 pub struct Target {
     pub variable: usize,
     pub extent: Extent,
@@ -27,14 +28,14 @@ pub struct Target {
 }
 
 // What is seen of the values given all lying in range, and a box that holds the states with those values where they do.
-#[derive(Drop)]
+#[derive(Clone, Copy)]
 pub struct Reached {
     pub range: Seen,
     pub to: Box,
 }
 
 // What is seen of a transition: of its guard, of the values that it gives all lying in range, and a box that holds every successor.
-#[derive(Drop)]
+#[derive(Clone, Copy)]
 pub struct Moved {
     pub guard: Seen,
     pub range: Seen,

@@ -1,4 +1,5 @@
 // A condition prepared for its tests: what does not depend on the state is looked up once.
+#![tactic(auto)]
 pub mod tests;
 
 ghost use Rattle.std.specs.Prelude.{◌≡◌, [], ◌∷◌, ℕ, ◌≤◌, ◌<◌, get_or};
@@ -13,7 +14,7 @@ use shapes::Edge;
 
 // What a condition's premise must imply: that one of the targets is true; that a true guard goes with values in range; that a step leads to one of
 // the targets; that the transition is enabled.
-#[derive(Drop)]
+#[derive(Clone, Copy)]
 pub enum Conclusion {
     SomeTarget,
     ValuesInRange,
@@ -22,14 +23,14 @@ pub enum Conclusion {
 }
 
 // Records of truth expressions: the first `count` of the places.
-#[derive(Drop)]
+#[derive(Clone, Copy)]
 pub struct Targets {
     pub places: [u16; 32],
     pub count: usize,
 }
 
 // A condition, with the records that it speaks of.
-#[derive(Drop)]
+#[derive(Clone, Copy)]
 pub struct Test {
     pub premise: usize,
     pub conclusion: Conclusion,

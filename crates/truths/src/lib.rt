@@ -1,1 +1,2 @@
 // Truths, and tests of numbers in a row: definitions and laws alone.
+#![tactic(auto)]

@@ -1,4 +1,5 @@
 // The program: a file comes in, the report of its check goes out as digits, and behind it, if asked, the tests (C15).
+#![tactic(auto)]
 ghost use Rattle.std.specs.Prelude.{true, ◌↔◌, ◌≡◌, ◌+◌, ◌≤◌, length};
 ghost use Rattle.io.specs.Counts.{IsPrefixLen};
 ghost use Rattle.vdcheck.specs.Printing.{TestsAsked};
@@ -9,7 +10,7 @@ use printing::printed;
 mod printing;
 
 // How many bytes reading gave, and whether it failed.
-#[derive(Drop)]
+#[derive(Clone, Copy)]
 struct Received {
     length: usize,
     failed: bool,

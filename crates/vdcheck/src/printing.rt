@@ -48,7 +48,7 @@ fn line(report: [u8; 32]) -> [u8; 65]
 }
 
 // The line of a report, and the tests of its check.
-#[derive(Drop)]
+#[derive(Clone, Copy)]
 pub(crate) struct Printout {
     pub(crate) line: [u8; 65],
     pub(crate) tests: u64,

@@ -1,4 +1,5 @@
 // The library for C and Rust: the check and the single test over plain bytes, whose answers are plain numbers.
+#![tactic(auto)]
 ghost use Rattle.std.specs.Prelude.{◌≡◌, length};
 ghost use Rattle.verdicts.specs.Verdict.{check_of, single_of};
 ghost use Rattle.deciding.specs.Decision.{Decides};
@@ -11,7 +12,7 @@ use verdicts::Single;
 
 // `number` is 0 if the condition is tested, and `holds` tells whether it holds at the state; else it is the refusal's, with its place.
 #[repr(C)]
-#[derive(Drop)]
+#[derive(Clone, Copy)]
 pub struct Tested {
     pub number: usize,
     pub place: usize,

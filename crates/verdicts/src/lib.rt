@@ -1,4 +1,5 @@
 // The verdict on a file: the lowest broken condition with the lowest state that breaks it; and what a single test answers.
+#![tactic(auto)]
 ghost use Rattle.std.specs.Prelude.{◌≡◌, ◌≤◌};
 ghost use Rattle.diagrams.specs.Diagram.{Loaded};
 ghost use Rattle.conditions.specs.Condition.{node_number, transition_number};
@@ -22,7 +23,7 @@ use testing::test_of;
 use testing::tests::{concludes, passes};
 
 // What a single test answers: the refusal that meets it, with its number and its place; or whether the condition holds at the state.
-#[derive(Drop)]
+#[derive(Clone, Copy)]
 pub enum Single {
     Refused(u8, usize),
     Holds,

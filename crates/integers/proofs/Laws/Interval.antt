@@ -150,8 +150,8 @@ bounded_test {i} b =
     (in_between i.low b.low, in_between i.high b.high)
 
 -- what lies in an interval in bounds lies in bounds
-pub in_bounds : {x : ℤ} {i : Interval} → Bounded i → In x i → In x bounds
-in_bounds b h = record { above = ≤ℤ_trans b.low.above h.above; below = ≤ℤ_trans h.below b.high.below }
+pub in_bounds_lem : {x : ℤ} {i : Interval} → Bounded i → In x i → In x bounds
+in_bounds_lem b h = record { above = ≤ℤ_trans b.low.above h.above; below = ≤ℤ_trans h.below b.high.below }
 
 -- an operation's interval is not empty
 pub ordered : (op : ℤ → ℤ → ℤ) (i j : Interval) → (over_ends op i j).low ≤ℤ (over_ends op i j).high

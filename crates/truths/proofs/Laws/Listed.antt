@@ -50,7 +50,7 @@ module _ {A : Type 0} (f : ℕ → A) where
   tabulate_member (suc n) at zero l = let z : at + 0 ≡ at = omega arith in inl (rw z)
   tabulate_member (suc n) at (suc i) l =
       let z : at + suc i ≡ at + 1 + i = omega arith in
-      inr (rw z (tabulate_member n (at + 1) i (omega arith)))
+      inr (subst (λ j. Member (f j) (tabulate f n (at + 1))) (sym z) (tabulate_member n (at + 1) i (omega arith)))
 
   pub tabulated : (n at : ℕ) {x : A} → Member x (tabulate f n at) → (i : ℕ) × (i < n) × (x ≡ f (at + i))
   unfolding tabulate

@@ -16,7 +16,7 @@ use Rattle.integers.specs.declared.Interval.{Interval}
 use Rattle.integers.specs.Inside.{In}
 use Rattle.truths.proofs.Laws.Truth.{by-test}
 use Rattle.integers.proofs.Laws.Parts.{ints}
-use Rattle.integers.proofs.Laws.Interval.{in_bounds}
+use Rattle.integers.proofs.Laws.Interval.{in_bounds_lem}
 use Rattle.records.specs.Form.{Form}
 use Rattle.records.specs.Form.Form.{Constant, Variable, Arithmetic, Indicator, Division}
 use Rattle.records.specs.Record.{kind_at, field_a, value_b, value_c}

@@ -1,0 +1,57 @@
+-- `conditions::condition_at` meets its contract, by the layout: behind the covers, the node and the position of its condition.
+-- Assumes nothing.
+use mathlib.Core.Path.{sym, ◌∙◌}
+use native.Mathlib.Omega.{arith}
+use Rattle.diagrams.proofs.Laws.Diagram.{promised}
+use Rattle.conditions.proofs.Laws.Condition.{Move, condition_opening}
+use Rattle.conditions.proofs.Steps.Condition.{double_few, laid_cover, laid_move, moved_enabling, moved_before, moved_after}
+use Rattle.conditions.proofs.condition_at.Goals as goal
+use Rattle.conditions.proofs.condition_at.Goals.{Else-number-l, Start}
+
+-- behind the covers
+abbrev start : Else-number-l → Start
+start c = c.before.before.before.before.before
+
+move : (c : Else-number-l) → Move (start c).args.file.now (start c).args.diagram c.layout-l.result (start c).args.number
+move c = laid_move _ _ (start c).requires.loaded c.layout-l.ensures _ c.if-number-l.false (start c).requires.below
+
+pub returns-then-number-eq0 : goal.returns-then-number-eq0
+returns-then-number-eq0 c = rw c.if-number-eq0.true (c.opening.ensures ∙ sym (condition_opening _ _ c.requires.loaded))
+
+pub layout-l-requires : goal.layout-l-requires
+layout-l-requires c = (promised _ _ c.requires.loaded).transitions
+
+pub returns-then-number-l : goal.returns-then-number-l
+returns-then-number-l c =
+    let s = c.before.before.before.before.before in
+    laid_cover _ _ s.requires.loaded c.layout-l.ensures _ (omega (arith, c.if-number-eq0.false)) c.if-number-l.true
+
+pub nonzero_div-node : goal.nonzero_div-node
+nonzero_div-node c = (move c.before.before).some
+
+pub overflow_add-node : goal.overflow_add-node
+overflow_add-node c = omega (arith, (move c.before.before.before).node, (promised _ _ (start c.before.before.before).requires.loaded).nodes.1)
+
+pub nonzero_rem-k : goal.nonzero_rem-k
+nonzero_rem-k c = (move c.before.before.before.before).some
+
+pub overflow_mul-enabling : goal.overflow_mul-enabling
+overflow_mul-enabling c = omega (arith, double_few _ _ (start c.before.before.before.before.before).requires.loaded _ c.double_of_lem.ensures)
+
+pub overflow_add-enabling : goal.overflow_add-enabling
+overflow_add-enabling c = omega (arith, double_few _ _ (start c.before.before.before.before.before).requires.loaded _ c.double_of_lem.ensures)
+
+pub returns-then-k-enabling : goal.returns-then-k-enabling
+returns-then-k-enabling c = moved_enabling _ _ (move c.before.before.before.before.before.before) c.before.double_of_lem.ensures c.if-k-enabling.true
+
+pub returns-then-k-enabling-2 : goal.returns-then-k-enabling-2
+returns-then-k-enabling-2 c =
+    c.pair.ensures
+    ∙ moved_before _ _ (move c.before.before.before.before.before.before.before.before)
+    c.before.before.before.double_of_lem.ensures c.if-k-enabling-2.true
+
+pub returns : goal.returns
+returns c =
+    c.pair-2.ensures
+    ∙ moved_after _ _ (move c.before.before.before.before.before.before.before.before)
+    c.before.before.before.double_of_lem.ensures (omega (arith, c.if-k-enabling.false, c.if-k-enabling-2.false))

@@ -1,0 +1,61 @@
+-- `evaluating::step`: a guard that is false ends it; behind one that is true the updates decide. Assumes nothing.
+use mathlib.Core.Path.{sym, ◌∙◌}
+use Prim.Native.Nat.{◌+◌, ◌*◌, ◌≤◌}
+use native.Mathlib.Omega.{arith}
+use lib.ListN.{length, get_or}
+use borrow.Author.Tests.{not-true, not-false}
+use Rattle.records.specs.Kind.{truth as truth_sort}
+use Rattle.evaluating.specs.Step.{guard_of}
+use Rattle.expressions.proofs.Laws.Expression.{fits_here}
+use Rattle.expressions.proofs.Laws.Part.{take_rest, lent, entry, behind_is, behind_within}
+use Rattle.evaluating.proofs.Steps.Transition.{step_off, step_on}
+use Rattle.evaluating.proofs.step.Goals as goal
+use Rattle.evaluating.proofs.step.Goals.{Start}
+
+here : (s : Start) → 8 * (s.args.at + 1) + 8 ≤ length s.args.file.now
+here s = fits_here s.args.file.now (s.args.at + 1) 16 truth_sort s.args.state s.requires.fits.guard
+
+end : (s : Start) → 8 * (s.args.at + 1 + get_or s.args.spans.now (s.args.at + 1) 0) ≤ length s.args.file.now
+end s = behind_within _ _ s.requires.spans truth_sort (s.args.at + 1) _ s.requires.fits.guard
+
+pub overflow_add-from : goal.overflow_add-from
+overflow_add-from c = omega (arith, here c.before)
+
+pub overflow_mul-from : goal.overflow_mul-from
+overflow_mul-from c = omega (arith, here c.before)
+
+pub slice_bounds-truth_at-count : goal.slice_bounds-truth_at-count
+slice_bounds-truth_at-count c = omega (arith, here c.before)
+
+pub truth_at-requires : goal.truth_at-requires
+truth_at-requires c = let s = c.before.before in lent _ _ s.requires.spans truth_sort (s.args.at + 1) _ s.requires.fits.guard
+
+pub returns-then-not-truth_at : goal.returns-then-not-truth_at
+unfolding guard_of
+returns-then-not-truth_at c = let s = c.before.before.before.before in
+    step_off _ _ _ _ _
+    ((rw (take_rest (8 * (s.args.at + 1)) s.args.file.now) at (sym c.truth_at.ensures)) ∙ not-true _ c.if-not-truth_at.true-raw)
+
+pub offset_bounds-spans-from : goal.offset_bounds-spans-from
+offset_bounds-spans-from c = omega (arith, here c.before.before.before.before)
+
+pub bounds-spans-from : goal.bounds-spans-from
+bounds-spans-from c = let s = c.before.before.before.before in entry _ _ s.requires.spans truth_sort (s.args.at + 1) _ s.requires.fits.guard
+
+pub overflow_cast-spans : goal.overflow_cast-spans
+overflow_cast-spans c = let s = c.before.before.before.before.before in omega (arith, here s, end s)
+
+pub overflow_add-from-2 : goal.overflow_add-from-2
+overflow_add-from-2 c = let s = c.before.before.before.before.before in omega (arith, here s, end s)
+
+pub updates-found-requires : goal.updates-found-requires
+updates-found-requires c = let s = c.before.before.before.before.before in
+    record { spans = s.requires.spans; fits = rw (behind_is _ _ s.requires.spans truth_sort (s.args.at + 1) _ s.requires.fits.guard) s.requires.fits.updates }
+
+pub returns : goal.returns
+unfolding guard_of
+returns c =
+    let s = c.before.before.before.before.before.before.before.before in
+    step_on _ _ _ _ _
+    ((rw (take_rest (8 * (s.args.at + 1)) s.args.file.now) at (sym c.truth_at.ensures)) ∙ not-false _ c.if-not-truth_at.false-raw)
+    (rw (behind_is _ _ s.requires.spans truth_sort (s.args.at + 1) _ s.requires.fits.guard) at c.updates-found.ensures)

@@ -1,0 +1,16 @@
+-- `evaluating::with`: a value in range lies between the ends as they are held. Assumes nothing.
+use lib.IntN.{pos}
+use lib.ListN.{get_or}
+use mir.Syntax.{w16}
+use mir.Facts.{to_z-of_z}
+use Rattle.integers.proofs.Laws.Parts.{back}
+use Rattle.evaluating.proofs.Laws.Transition.{in_range_ends}
+use Rattle.evaluating.proofs.with.Goals as goal
+
+pub assign-requires : goal.assign-requires
+assign-requires c = let a = c.args in rw
+    (back w16 (get_or a.t1 a.i (pos 0)) c.l-1.given, back w16 (get_or a.t2 a.i (pos 0)) c.h-1.given, to_z-of_z c.ranges.x)
+    (c.requires.variable, in_range_ends _ _ _ _ c.requires.range)
+
+pub returns : goal.returns
+returns c = rw (to_z-of_z c.ranges.x) at c.assign.ensures

@@ -1,0 +1,19 @@
+-- `expressions::compare`: the tests of the bits are those of the numbers. Assumes nothing.
+use mir.Facts.{to_z-of_z}
+use borrow.Author.Tests.{ne_eqb}
+use Rattle.integers.proofs.Laws.Equality.{bits_equal}
+use Rattle.expressions.specs.Expression.{compare_of}
+use Rattle.expressions.proofs.compare.Goals as goal
+
+pub returns-in-39 : goal.returns-in-39
+unfolding compare_of
+returns-in-39 c = let s = c.before in rw (bits_equal s.ranges.x s.ranges.y, c.in-39.is)
+
+pub returns-in-40 : goal.returns-in-40
+unfolding compare_of
+returns-in-40 c = let s = c.before in rw (to_z-of_z s.ranges.x, to_z-of_z s.ranges.y, c.in-40.is)
+
+pub returns-in_default : goal.returns-in_default
+unfolding compare_of
+returns-in_default c = let s = c.before in rw
+    (to_z-of_z s.ranges.x, to_z-of_z s.ranges.y, ne_eqb s.args.kind 0x27 c.in_default.rest.0.1, ne_eqb s.args.kind 0x28 c.in_default.rest.1)

@@ -1,0 +1,8 @@
+-- `sections::transition_places` meets its contract: the places of transitions.
+-- Assumes nothing.
+use Rattle.sections.specs.Item.{item_of}
+use Rattle.sections.proofs.transition_places.Goals as goal
+
+pub returns : goal.returns
+unfolding item_of
+returns c = c.places.ensures

@@ -25,23 +25,23 @@ use Rattle.integers.proofs.Laws.Parts.{ints, le_or_lt, ≤ℤ_trans, ≤ℤ_anti
 use Rattle.integers.proofs.Laws.Radix.{at_above, at_below, offset_less, above_next}
 use Rattle.states.specs.State.{Within}
 use Rattle.states.specs.Ranges.{Ranges}
-use Rattle.states.specs.Ranges.Ranges.{none as no-ranges, more as more_ranges}
-use Rattle.states.specs.State.Within.{none as no-values, more as more_values}
+use Rattle.states.specs.Ranges.Ranges.{none as no_ranges, more as more_ranges}
+use Rattle.states.specs.State.Within.{none as no_values, more as more_values}
 use Rattle.boxes.specs.declared.Box.{Box}
 use Rattle.boxes.specs.Box.{Inside, Nested, Part}
 use Rattle.boxes.specs.Box.Nested.{none, more}
 use Rattle.boxes.specs.Half.{wide_of, choice_of, halfway_of, lower_of, upper_of}
 
 pub whole : {lows highs : List ℤ} → Ranges lows highs → Nested lows highs lows highs
-whole no-ranges = none
+whole no_ranges = none
 whole (more_ranges p r) = more (≤ℤ_refl _) p (≤ℤ_refl _) (whole r)
 
 pub part_inside : {leasts mosts lows highs state : List ℤ} → Nested leasts mosts lows highs → Within lows highs state → Within leasts mosts state
-part_inside none no-values = no-values
+part_inside none no_values = no_values
 part_inside (more a b c n) (more_values p q w) = more_values (≤ℤ_trans a p) (≤ℤ_trans q c) (part_inside n w)
 
 pub low_inside : {leasts mosts lows highs : List ℤ} → Nested leasts mosts lows highs → Within lows highs lows
-low_inside none = no-values
+low_inside none = no_values
 low_inside (more a b c n) = more_values (≤ℤ_refl _) b (low_inside n)
 
 pub part_length : {leasts mosts lows highs : List ℤ} → Nested leasts mosts lows highs → (length lows ≡ length leasts) × (length highs ≡ length leasts)
@@ -51,7 +51,7 @@ part_length (more a b c n) = let e = part_length n in (ap suc e.0, ap suc e.1)
 pub single : {leasts mosts lows highs state : List ℤ} → Nested leasts mosts lows highs → length lows ≤ wide_of lows highs → Within lows highs state → state ≡
     lows
 unfolding wide_of
-single none l no-values = refl
+single none l no_values = refl
 single (more {low = low} {high} {lows = lows} {highs} a b c n) l (more_values {value = value} {state = state} p q w) =
     by-test (lt_z low high) (λ t. suc (length lows) ≤ cond t 0 (suc (wide_of lows highs)) → value ∷ state ≡ low ∷ lows)
     (λ is k. absurd (omega arith))
@@ -112,12 +112,12 @@ low_part (more a b c n) zero l k = more (≤ℤ_trans a l) k c n
 low_part (more a b c n) (suc v) l k = more a b c (low_part n v l k)
 
 high_inside : {lows highs state : List ℤ} {m : ℤ} → Within lows highs state → (v : ℕ) → get_or state v (pos 0) ≤ℤ m → Within lows (set highs v m) state
-high_inside no-values v l = no-values
+high_inside no_values v l = no_values
 high_inside (more_values p q w) zero l = more_values p l w
 high_inside (more_values p q w) (suc v) l = more_values p q (high_inside w v l)
 
 from_inside : {lows highs state : List ℤ} {m : ℤ} → Within lows highs state → (v : ℕ) → m ≤ℤ get_or state v (pos 0) → Within (set lows v m) highs state
-from_inside no-values v l = no-values
+from_inside no_values v l = no_values
 from_inside (more_values p q w) zero l = more_values l q w
 from_inside (more_values p q w) (suc v) l = more_values p q (from_inside w v l)
 

@@ -17,8 +17,8 @@ use Rattle.integers.proofs.Laws.Parts.{ints, le_or_lt, ≤ℤ_antisym}
 use Rattle.integers.proofs.Laws.Radix.{below_next}
 use Rattle.states.specs.State.{Within}
 use Rattle.states.specs.Ranges.{Ranges}
-use Rattle.states.specs.Ranges.Ranges.{none as no-ranges, more as more_ranges}
-use Rattle.states.specs.State.Within.{none as no-values, more as more_values}
+use Rattle.states.specs.Ranges.Ranges.{none as no_ranges, more as more_ranges}
+use Rattle.states.specs.State.Within.{none as no_values, more as more_values}
 use Rattle.states.specs.Number.{number_of}
 use Rattle.states.proofs.Laws.Order.{Precedes, precedes_less, less_precedes, none_precedes}
 use Rattle.states.proofs.Laws.Order.Precedes.{here, there}
@@ -41,7 +41,7 @@ slab_part : {least most low high : ℤ} {leasts mosts : List ℤ} → low ≤ℤ
 slab_part {low = low} {high} p r s = ⊎_elim (λ k. let e : high ≡ low = ≤ℤ_antisym k p in rw e (point s)) (λ k. part k r) (le_or_lt high low)
 
 pub slab_whole : {lows highs : List ℤ} → Ranges lows highs → Slab lows highs lows highs
-slab_whole no-ranges = none
+slab_whole no_ranges = none
 slab_whole (more_ranges p r) = slab_part p r (slab_whole r)
 
 -- ---- the first wide variable
@@ -98,7 +98,7 @@ next_before {value} f (there l) = ⊎_elim (λ k. inl (there k)) (λ w. inr (mor
 before : {leasts mosts lows highs s : List ℤ} → Slab leasts mosts lows highs → Within leasts mosts s
     → Precedes s (upper_half (box lows highs)).low → Precedes s lows ⊎ Within (lower_half (box lows highs)).low (lower_half (box lows highs)).high s
 unfolding lower_of upper_of halfway_of
-before none no-values l = inl l
+before none no_values l = inl l
 before (part {leasts = leasts} {mosts} k r) (more_values p q w) l =
     let e = wide_here leasts mosts k in rw e (first_before w _ _ _ (rw e at l))
 before (point {value = value} {lows = lows} {highs} t) (more_values p q w) l =

@@ -17,23 +17,23 @@ module _ (c : After-h-1) where
   lowest = get_or c.args.b.low c.args.v (pos 0)
 
   abbrev highest : ℤ
-  highest = get_or c.before.before.before.before.args.b.high c.before.before.before.before.args.v (pos 0)
+  highest = get_or c.args.b.high c.args.v (pos 0)
 
   low_held : to_z w16 (of_z w16 lowest) ≡ lowest
-  low_held = back w16 _ c.before.l.given
+  low_held = back w16 _ c.l-1.given
 
   high_held : to_z w16 (of_z w16 highest) ≡ highest
-  high_held = back w16 _ c.h.given
+  high_held = back w16 _ c.h-1.given
 
-offset-is : (c : After-offset_of) → c.offset_of.result ≡ offset_of (lowest c.before) (highest c.before)
-offset-is c = rw (low_held c.before, high_held c.before) at c.offset_of.ensures
+offset_is : (c : After-offset_of) → c.offset_of.result ≡ offset_of (lowest c.before) (highest c.before)
+offset_is c = rw (low_held c.before, high_held c.before) at c.offset_of.ensures
 
 pub offset_of-requires : goal.offset_of-requires
 offset_of-requires c = let less = c.requires.wide in rw (low_held c, high_held c) (omega ints)
 
 pub value_at-requires : goal.value_at-requires
-value_at-requires c = rw (low_held c.before, high_held c.before, offset-is c) (behind_between c.requires.wide).1
+value_at-requires c = rw (low_held c.before, high_held c.before, offset_is c) (behind_between c.requires.wide).1
 
 pub returns : goal.returns
 unfolding upper_of halfway_of
-returns c = rw (back w16 c.value_at.result c.value_at.type_inv, c.value_at.ensures, low_held c.before.before, offset-is c.before)
+returns c = rw (back w16 c.value_at.result c.value_at.type_inv, c.value_at.ensures, low_held c.before.before, offset_is c.before)

@@ -30,7 +30,7 @@ use Rattle.reading.proofs.Laws.Readable as readable
 use Rattle.evaluating.proofs.Laws.Transition.{SetIn, Unset}
 use Rattle.evaluating.proofs.Laws.Readable as evaluable
 use Rattle.evaluating.proofs.Laws.Step.{guard_holds_lem, enabled_and as guarded, lowest_is, highest_is, successors_between, successors_none}
-use Rattle.evaluating.proofs.Laws.Step.{ends_ranges, between_state, successor_member, member_successor, successor_enabled as has-enabled, successor_state as stays}
+use Rattle.evaluating.proofs.Laws.Step.{ends_ranges, between_state, successor_member, member_successor, successor_enabled as has_enabled, successor_state as stays}
 use Rattle.diagrams.specs.declared.Diagram.{Diagram}
 use Rattle.diagrams.specs.Diagram.{diagram_of, Loaded, State, state_number}
 use Rattle.diagrams.proofs.Laws.Diagram.{found_read, promised}
@@ -66,7 +66,7 @@ module _ (file : List ℕ) (g : Diagram) (t : ℕ) (state : List ℤ) where
   listed next m = subst (λ (l : List (List ℤ)). Member next l) next_at m
 
   pub successor_enabled : (next : List ℤ) → Member next (next_states file g t state) → is_enabled file g t state ≡ true
-  successor_enabled next m = enabled_at ∙ has-enabled g.low g.high file (step_at g t) state next (listed next m)
+  successor_enabled next m = enabled_at ∙ has_enabled g.low g.high file (step_at g t) state next (listed next m)
 
 -- ---- the successors of a transition of the file
 module _ (file : List ℕ) (g : Diagram) (r : Loaded file g) (t : ℕ) (l : t < g.transitions) (state : List ℤ) (w : State g state) where

@@ -20,18 +20,18 @@ pub returns-then-not-is_update : goal.returns-then-not-is_update
 returns-then-not-is_update c = left_none _ _ _ _ _ c.loop-left.invariant (sym c.is_update.ensures ∙ not-true _ c.if-not-is_update.true-raw)
 
 -- an update stands at the record that the turn is about: it is the first of those left
-module _ (c : Else-not-is_update where
+module _ (c : Else-not-is_update) where
   left_some : c.loop-left.left ≡ suc (c.loop-left.left - 1)
   left_some = omega (arith, c.loop-left-test.true)
 
-  named : is_update c.before.before.before.before.before.args.file.now c.before.before.before.loop.at ≡ true
-  named = sym c.before.is-update.ensures ∙ not-false _ c.if1.false
+  named : is_update c.args.file.now c.loop-left.at ≡ true
+  named = sym c.is_update.ensures ∙ not-false _ c.if-not-is_update.false-raw
 
 pub update_at-u-requires : goal.update_at-u-requires
 update_at-u-requires c = record { fits = (fits_more _ _ _ (left_some c) (named c) c.loop-left.invariant.fit).0; spans = c.requires.spans }
 
 -- the variable is one of twelve
-variable : (a : After-update_at-u → a.update_at-u.result.variable < 12
+variable : (a : After-update_at-u) → a.update_at-u.result.variable < 12
 variable a =
     left_variable _ _ _ _ _ a.loop-left.invariant _ (left_some a.before) (named a.before) a.update_at-u.ensures
 

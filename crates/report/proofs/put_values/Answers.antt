@@ -12,13 +12,13 @@ use Rattle.report.proofs.Steps.Report.{filled_begin, filled_more, filled_end}
 use Rattle.report.proofs.put_values.Goals as goal
 use Rattle.report.proofs.put_values.Goals.{After-value-1, Start}
 
-twelve : (c : Start → length c.args.t1 ≡ 12
+twelve : (c : Start) → length c.args.values ≡ 12
 twelve c = search rules
 
 -- a value that was read is one of 16 bits
-value-fits : (c : After-value-1
-    → SFits w16 (get_or c.args.t1 c.loop-i.i (pos 0))
-value-fits c = record { sfits = c.value-1.given }
+value_fits : (c : After-value-1)
+    → SFits w16 (get_or c.args.values c.loop-i.i (pos 0))
+value_fits c = record { sfits = c.value-1.given }
 
 pub loop-i-init : goal.loop-i-init
 loop-i-init c = filled_begin _ _ c.requires (twelve c.before)
@@ -29,7 +29,7 @@ bounds-report-i-in-loop-i c = simp length-set (omega arith)
 pub loop-i-preserved : goal.loop-i-preserved
 loop-i-preserved c =
     let a = c.before.before.before.before.before.before in
-    let f = to_z-of_z (value-fits c.before.before) in
+    let f = to_z-of_z (value_fits c.before.before) in
     filled_more _ _ a.requires (twelve a) c.loop-i.invariant c.loop-i-test.true
     (rw f at c.low_byte-low.ensures) (rw f at c.high_byte-high.ensures)
 

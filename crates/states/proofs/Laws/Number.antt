@@ -27,8 +27,8 @@ use Rattle.integers.proofs.Laws.Parts.{ints, add_parts}
 use Rattle.integers.proofs.Laws.Radix.{at_above, at_below, offset_at, at_offset, offset_self, offset_swap, offset_next, offset_rises}
 use Rattle.states.specs.State.{Within}
 use Rattle.states.specs.Ranges.{Ranges}
-use Rattle.states.specs.Ranges.Ranges.{none as no-ranges, more as more_ranges}
-use Rattle.states.specs.State.Within.{none as no-values, more as more_values}
+use Rattle.states.specs.Ranges.Ranges.{none as no_ranges, more as more_ranges}
+use Rattle.states.specs.State.Within.{none as no_values, more as more_values}
 use Rattle.states.specs.Number.{size_of, count_of, state_of, number_of}
 use Rattle.states.specs.Advance.{last_of, advance_of}
 use Rattle.states.proofs.Laws.State.{within_ranges}
@@ -85,25 +85,25 @@ below_high {low} {high} k p l = at_below low high k p (omega arith)
 
 pub number_below : {lows highs state : List ℤ} → Within lows highs state → number_of lows highs state < count_of lows highs
 unfolding number_of count_of
-number_below no-values = omega arith
+number_below no_values = omega arith
 number_below (more_values p q w) = digits_lt (offset_below p q) (number_below w)
 
 pub state_of_number : {lows highs state : List ℤ} → Within lows highs state → state_of lows highs (number_of lows highs state) ≡ state
 unfolding number_of state_of
-state_of_number no-values = refl
+state_of_number no_values = refl
 state_of_number (more_values {low} {high} {value} p q w) =
     let o = offset_of low value in
     rw (digits_div o (number_below w), digits_mod o (number_below w), at_offset low value p, state_of_number w)
 
 pub number_of_state : {lows highs : List ℤ} → Ranges lows highs → (n : ℕ) → n < count_of lows highs → number_of lows highs (state_of lows highs n) ≡ n
 unfolding number_of count_of state_of
-number_of_state no-ranges n l = sym (lt-one l)
+number_of_state no_ranges n l = sym (lt-one l)
 number_of_state (more_ranges {low} {high} {lows} {highs} p r) n l =
     rw (offset_at, number_of_state r (n % count_of lows highs) (mod-lt n (count_pos lows highs))) (div-add-mod' n (count_of lows highs))
 
 pub state_within : {lows highs : List ℤ} → Ranges lows highs → (n : ℕ) → n < count_of lows highs → Within lows highs (state_of lows highs n)
 unfolding count_of state_of
-state_within no-ranges n l = no-values
+state_within no_ranges n l = no_values
 state_within (more_ranges {low} {high} {lows} {highs} p r) n l =
     let d = n / count_of lows highs in
     let some = count_pos lows highs in
@@ -116,12 +116,12 @@ number_unique {lows} {highs} v w e = sym (state_of_number v) ∙ ap (state_of lo
 -- ---- the first state
 
 lows_within : {lows highs : List ℤ} → Ranges lows highs → Within lows highs lows
-lows_within no-ranges = no-values
+lows_within no_ranges = no_values
 lows_within (more_ranges {low} p r) = more_values (≤ℤ_refl low) p (lows_within r)
 
 pub first_number : {lows highs : List ℤ} → Ranges lows highs → number_of lows highs lows ≡ 0
 unfolding number_of
-first_number no-ranges = refl
+first_number no_ranges = refl
 first_number (more_ranges {low} p r) = rw (offset_self low, first_number r, zero-mul)
 
 pub first_state : {lows highs : List ℤ} → Ranges lows highs → state_of lows highs 0 ≡ lows
@@ -140,7 +140,7 @@ module _ {low high value : ℤ} (p : low ≤ℤ value) (q : value ≤ℤ high) w
 
 pub advance_within : {lows highs state : List ℤ} → Within lows highs state → Within lows highs (advance_of lows highs state)
 unfolding advance_of
-advance_within no-values = no-values
+advance_within no_values = no_values
 advance_within (more_values {low} {high} {value} {lows} {highs} {state} p q w) =
     let m = moved p q (last_of highs state) in
     more_values m.0 m.1 (advance_within w)
@@ -149,7 +149,7 @@ advance_within (more_values {low} {high} {value} {lows} {highs} {state} p q w) =
 pub last_number : {lows highs state : List ℤ} → Within lows highs state → last_of highs state ≡ true
     → (number_of lows highs state + 1 ≡ count_of lows highs) × (advance_of lows highs state ≡ lows)
 unfolding last_of number_of count_of advance_of size_of
-last_number no-values e = (refl, refl)
+last_number no_values e = (refl, refl)
 last_number (more_values {low} {high} {value} {lows} {highs} {state} p q w) e =
     let t = (and-eq-true_iff (le_z high value) (last_of highs state)).0 e in
     let ih = last_number w t.1 in
@@ -161,7 +161,7 @@ last_number (more_values {low} {high} {value} {lows} {highs} {state} p q w) e =
 pub next_number : {lows highs state : List ℤ} → Within lows highs state → last_of highs state ≡ false
     → number_of lows highs (advance_of lows highs state) ≡ number_of lows highs state + 1
 unfolding last_of number_of advance_of
-next_number no-values e = let z : ◌≡◌ {A = ℕ} 0 1 = cc in absurd (omega arith)
+next_number no_values e = let z : ◌≡◌ {A = ℕ} 0 1 = cc in absurd (omega arith)
 next_number (more_values {low} {high} {value} {lows} {highs} {state} p q w) e = by_last (last_of highs state) refl (next_number w) e
   where
     by_last : (b : Bool) → last_of highs state ≡ b

@@ -14,7 +14,7 @@ use Rattle.integers.proofs.Laws.Parts.{ints, le_or_lt, ≤ℤ_antisym}
 use Rattle.integers.proofs.Laws.Radix.{offset_less}
 use Rattle.states.specs.State.{Within}
 use Rattle.states.specs.Ranges.{Ranges}
-use Rattle.states.specs.State.Within.{none as no-values, more as more_values}
+use Rattle.states.specs.State.Within.{none as no_values, more as more_values}
 use Rattle.states.specs.Number.{number_of}
 use Rattle.states.proofs.Laws.Number.{number_below, first_number}
 
@@ -25,13 +25,14 @@ pub data Precedes : List ℤ → List ℤ → Type 0 where
 
 pub precedes_less : {lows highs s t : List ℤ} → Within lows highs s → Within lows highs t → Precedes s t → number_of lows highs s < number_of lows highs t
 unfolding number_of
+precedes_less no_values _ l = elim l [ ]
 precedes_less (more_values {low} {value = x} p q v) (more_values {value = y} a b w) (here l) =
     omega (arith, digits_lt (offset_less low x y p l) (number_below v))
 precedes_less (more_values p q v) (more_values a b w) (there l) = omega (arith, precedes_less v w l)
 
 pub less_precedes : {lows highs s t : List ℤ} → Within lows highs s → Within lows highs t → number_of lows highs s < number_of lows highs t → Precedes s t
 unfolding number_of
-less_precedes no-values no-values l = absurd (omega arith)
+less_precedes no_values no_values l = absurd (omega arith)
 less_precedes (more_values {low} {value = x} p q v) (more_values {value = y} a b w) l =
     ⊎_elim
     (λ k. ⊎_elim
@@ -42,6 +43,7 @@ less_precedes (more_values {low} {value = x} p q v) (more_values {value = y} a b
     (λ k. here k) (le_or_lt y x)
 
 pub none_precedes : {lows highs s : List ℤ} → Within lows highs s → Precedes s lows → ⊥
+none_precedes no_values l = elim l [ ]
 none_precedes (more_values p q w) (here l) = omega ints
 none_precedes (more_values p q w) (there l) = none_precedes w l
 

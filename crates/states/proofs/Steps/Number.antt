@@ -16,8 +16,8 @@ use Rattle.integers.specs.Radix.{at, offset_of}
 use Rattle.integers.proofs.Laws.Parts.{ints}
 use Rattle.states.specs.State.{Within}
 use Rattle.states.specs.Ranges.{Ranges, Idle}
-use Rattle.states.specs.Ranges.Ranges.{none as no-ranges, more as more_ranges}
-use Rattle.states.specs.State.Within.{none as no-values, more as more_values}
+use Rattle.states.specs.Ranges.Ranges.{none as no_ranges, more as more_ranges}
+use Rattle.states.specs.State.Within.{none as no_values, more as more_values}
 use Rattle.states.specs.Number.{size_of, count_of, state_of, number_of}
 use Rattle.states.specs.Advance.{last_of, advance_of}
 use Rattle.states.proofs.Laws.State.{within_ranges}
@@ -58,7 +58,7 @@ module _ (lows highs : List ℤ) where
 count_fewer : {lows highs : List ℤ} → Ranges lows highs → (i : ℕ) → count_from lows highs i ≤ count_of lows highs
 unfolding count_of size_of
 count_fewer r zero = le_refl _
-count_fewer no-ranges (suc i) = omega arith
+count_fewer no_ranges (suc i) = omega arith
 count_fewer (more_ranges {low} {high} {lows} {highs} p r) (suc i) =
     le_trans (count_fewer r i) (rw (add-mul (offset_of low high) 1 (count_of lows highs), one-mul) (omega arith))
 
@@ -167,7 +167,7 @@ pub record Numbered (lows highs state : List ℤ) (number product i : ℕ) : Typ
 
 within_from : {lows highs state : List ℤ} → Within lows highs state → (i : ℕ) → Within (drop i lows) (drop i highs) (drop i state)
 within_from w zero = w
-within_from no-values (suc i) = no-values
+within_from no_values (suc i) = no_values
 within_from (more_values p q w) (suc i) = within_from w i
 
 module _ (lows highs state : List ℤ) where

@@ -20,42 +20,42 @@ pub loop-i-init : goal.loop-i-init
 loop-i-init c = carried_begin _ _ _ _ (search rules) (search rules) (search rules) (search rules) c.requires.idle
 
 -- the variable that the turn is about, its value and its ends; value and high end are held as they are
-module _ (c : After-h-1 where
+module _ (c : After-h-1) where
   abbrev variable : ℕ
   variable = c.loop-i.i - 1
 
   abbrev value : ℤ
-  value = get_or c.before.before.before.before.args.state variable (pos 0)
+  value = get_or c.args.state variable (pos 0)
 
   abbrev low : ℤ
-  low = get_or c.before.before.before.before.args.t1 variable (pos 0)
+  low = get_or c.args.low variable (pos 0)
 
   abbrev high : ℤ
-  high = get_or c.before.before.before.before.args.t2 variable (pos 0)
+  high = get_or c.args.high variable (pos 0)
 
-  value_held : to_z w16 (of_z w16 (get_or c.before.before.before.loop.next variable (pos 0))) ≡ value
-  value_held = back w16 _ c.before.v.given ∙ carried_at _ _ _ _ _ c.before.before.before.loop.invariant c.before.before.loop-test.true
+  value_held : to_z w16 (of_z w16 (get_or c.loop-i.next variable (pos 0))) ≡ value
+  value_held = back w16 _ c.v-1.given ∙ carried_at _ _ _ _ _ c.loop-i.invariant c.loop-i-test.true
 
   high_held : to_z w16 (of_z w16 high) ≡ high
-  high_held = back w16 _ c.h.given
+  high_held = back w16 _ c.h-1.given
 
-below : (c : Then-v-h → lt_z (value c.before) (high c.before) ≡ true
+below : (c : Then-v-h) → lt_z (value c.before) (high c.before) ≡ true
 below c = rw (value_held c.before, high_held c.before) at c.if-v-h.true
 
 -- what is below a 16-bit number may move on
 next_fits : (v h : ℤ) → SFits w16 v → SFits w16 h → lt_z v h ≡ true → SFits w16 (v +ℤ pos 1)
 next_fits v h f g e = let z = v +ℤ pos 1 in omega (ints, add_parts v (pos 1), one_part v, one_part h, one_part z)
 
-moved-fits : (c : Then-v-h → SFits w16 (value c.before +ℤ pos 1)
-moved-fits c = next_fits (value c.before) (high c.before) (search signed) (search signed) (below c)
+moved_fits : (c : Then-v-h) → SFits w16 (value c.before +ℤ pos 1)
+moved_fits c = next_fits (value c.before) (high c.before) (search signed) (search signed) (below c)
 
 pub overflow_add-next : goal.overflow_add-next
-overflow_add-next c = rw (value_held c.before) (moved-fits c)
+overflow_add-next c = rw (value_held c.before) (moved_fits c)
 
 pub returns-then-v-h : goal.returns-then-v-h
 returns-then-v-h c =
     let loop = c.before.before.before in
-    rw (value_held c.before, to_z-of_z (moved-fits c)) (carried_done _ _ _ _ _ loop.loop-i.invariant loop.loop-i-test.true (below c))
+    rw (value_held c.before, to_z-of_z (moved_fits c)) (carried_done _ _ _ _ _ loop.loop-i.invariant loop.loop-i-test.true (below c))
 
 pub loop-i-preserved : goal.loop-i-preserved
 loop-i-preserved c =

@@ -19,27 +19,27 @@ pub loop-i-init : goal.loop-i-init
 loop-i-init c = counted_begin _ _ (search rules) (search rules)
 
 -- the variable that the turn is about; the ends of its range are held as they are
-module _ (c : After-size-arg-in-loop-i-1 where
+module _ (c : After-size-arg-in-loop-i-1) where
   abbrev lows : List ℤ
-  lows = c.args.t1
+  lows = c.args.low
 
   abbrev highs : List ℤ
-  highs = c.before.before.before.before.args.t2
+  highs = c.args.high
 
   abbrev variable : ℕ
-  variable = c.before.before.before.loop.i - 1
+  variable = c.loop-i.i - 1
 
   low_held : to_z w16 (of_z w16 (get_or lows variable (pos 0))) ≡ get_or lows variable (pos 0)
-  low_held = back w16 _ c.before.size-arg.given
+  low_held = back w16 _ c.size-arg-1.given
 
   high_held : to_z w16 (of_z w16 (get_or highs variable (pos 0))) ≡ get_or highs variable (pos 0)
-  high_held = back w16 _ c.size-arg2.given
+  high_held = back w16 _ c.size-arg-in-loop-i-1.given
 
 pub size-product-requires : goal.size-product-requires
 size-product-requires c = rw (low_held c, high_held c) (ranges_at c.requires.ranges (variable c))
 
 -- the variable is counted in
-counted_next : (c : After-size-product
+counted_next : (c : After-size-product)
     → Counted (lows c.before) (highs c.before) (c.loop-i.product * c.size-product.result) (variable c.before)
 counted_next c =
     let size : c.size-product.result ≡ size_at (lows c.before) (highs c.before) (variable c.before) =

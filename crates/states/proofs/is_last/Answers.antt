@@ -15,7 +15,7 @@ pub returns-then-v-h : goal.returns-then-v-h
 returns-then-v-h c =
     let h = c.before in
     let e = rw (back w16 _ h.v-1.given, back w16 _ h.h-1.given) at c.if-v-h.true in
-    sym (c.loop-i.invariant.0 ∙ last_below c.args.t1 c.args.t2 c.loop-i.i (search rules) (search rules) e)
+    sym (c.loop-i.invariant.0 ∙ last_below c.args.high c.args.state c.loop-i.i (search rules) (search rules) e)
 
 pub loop-i-smaller : goal.loop-i-smaller
 loop-i-smaller c = omega (arith, c.loop-i-test.true)
@@ -24,7 +24,7 @@ pub loop-i-preserved : goal.loop-i-preserved
 loop-i-preserved c =
     let h = c.before in
     let e = rw (back w16 _ h.v-1.given, back w16 _ h.h-1.given) at c.if-v-h.false in
-    (c.loop-i.invariant.0 ∙ last_next c.args.t1 c.args.t2 c.loop-i.i (search rules) (search rules) e, omega (arith, c.loop-i-test.true))
+    (c.loop-i.invariant.0 ∙ last_next c.args.high c.args.state c.loop-i.i (search rules) (search rules) e, omega (arith, c.loop-i-test.true))
 
 pub returns : goal.returns
-returns c = sym (c.loop-i.invariant.0 ∙ last_end c.args.t1 c.args.t2 c.loop-i.i (search rules))
+returns c = sym (c.loop-i.invariant.0 ∙ last_end c.args.high c.args.state c.loop-i.i (search rules))

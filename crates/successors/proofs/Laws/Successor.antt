@@ -17,7 +17,7 @@ use Rattle.truths.proofs.Laws.Truth.{by-test}
 use Rattle.records.specs.Record.{kind_is}
 use Rattle.sections.specs.Section.{is_update}
 use Rattle.states.specs.State.{Within}
-use Rattle.states.specs.State.Within.{none as no-values, more as more_values}
+use Rattle.states.specs.State.Within.{none as no_values, more as more_values}
 use Rattle.states.proofs.Laws.State.{ranges_at, within_ranges, within_set, within_ends}
 use Rattle.expressions.specs.Expression.{part_at, behind}
 use Rattle.expressions.proofs.Laws.Sound.{constant_in}
@@ -43,7 +43,7 @@ use Rattle.successors.specs.Successor.{point_of, range_in, cut_in, picked_at, as
 
 -- a value and its ends are set together
 sets_within : {low high state : List ℤ} {a x z : ℤ} → Within low high state → (i : ℕ) → a ≤ℤ x → x ≤ℤ z → Within (set low i a) (set high i z) (set state i x)
-sets_within no-values i l m = no-values
+sets_within no_values i l m = no_values
 sets_within (more_values p q w) zero l m = more_values l m w
 sets_within (more_values p q w) (suc i) l m = more_values p q (sets_within w i l m)
 

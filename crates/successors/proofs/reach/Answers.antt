@@ -18,12 +18,12 @@ pub returns-then-not-is_update : goal.returns-then-not-is_update
 returns-then-not-is_update c = left_none _ _ _ _ c.loop-left.invariant (sym c.is_update.ensures ∙ not-true _ c.if-not-is_update.true-raw)
 
 -- an update stands at the record that the turn is about: it is the first of those left
-module _ (c : Else-not-is_update where
+module _ (c : Else-not-is_update) where
   left_some : c.loop-left.left ≡ suc (c.loop-left.left - 1)
   left_some = omega (arith, c.loop-left-test.true)
 
-  named : is_update c.before.before.before.before.before.args.file.now c.before.before.before.loop.at ≡ true
-  named = sym c.before.is-update.ensures ∙ not-false _ c.if1.false
+  named : is_update c.args.file.now c.loop-left.at ≡ true
+  named = sym c.is_update.ensures ∙ not-false _ c.if-not-is_update.false-raw
 
 pub target_at-t-requires : goal.target_at-t-requires
 target_at-t-requires c =

@@ -23,25 +23,25 @@ use Rattle.verdicts.proofs.first_break.Goals.{After-onward-to, After-test_of-tes
 abbrev start : After-total-total → Start
 start c = c.before.before.before.before
 
-ready : (c : After-total-total → Ready (start c).args.file.now (start c).args.diagram c.total-total.result
+ready : (c : After-total-total) → Ready (start c).args.file.now (start c).args.diagram c.total-total.result
 ready c = record { loaded = (start c).requires.loaded; total_is = c.total-total.ensures }
 
 -- a condition is prepared
 abbrev Opened : Type 0
 Opened = After-test_of-test
 
-abbrev looked-up : Opened → After-total-total
-looked-up d = d.before.before.before.before
+abbrev looked_up : Opened → After-total-total
+looked_up d = d.before.before.before.before
 
 -- it is passed in the states before n, and `state` is the next
 abbrev passed_in : Opened → List ℤ → ℕ → Type 0
 passed_in d state n =
-    let a = (start (looked-up d)).args in
+    let a = (start (looked_up d)).args in
     StatesPassed a.diagram
     (condition_holds a.file.now a.diagram (condition_at a.file.now a.diagram d.before.before.before.conditions.number)) state n
 
 -- where the loops were left before the last condition, they were left at a break
-broke : (c : Left-conditions
+broke : (c : Left-conditions)
     → c.conditions.number < c.total-total.result
     → Broke (start c.before.before).args.file.now (start c.before.before).args.diagram
     c.conditions.number c.conditions-test.state c.conditions-test.n
@@ -56,10 +56,10 @@ broke c below =
     w.5.came))
     c.conditions-test.branch
 
-tests-fit : (c : Left-conditions
+tests_fit : (c : Left-conditions)
     → c.conditions.number < c.total-total.result
     → c.conditions.number * (start c.before.before).args.diagram.states + c.conditions-test.n + 1 ≤ 2183135233
-tests-fit c below =
+tests_fit c below =
     let r = ready c.before.before in
     omega (arith, tests_small r (le_of_lt below), broke_small r (broke c below).1)
 
@@ -75,37 +75,37 @@ pub test_of-test-requires : goal.test_of-test-requires
 test_of-test-requires c = test_asks (ready c.before.before.before) c.conditions-test.true c.condition_at-condition.ensures
 
 pub states-init : goal.states-init
-states-init c = passed_begin (ready (looked-up (c.before))) _
+states-init c = passed_begin (ready (looked_up (c.before))) _
 
 pub advance-next-requires : goal.advance-next-requires
 advance-next-requires c =
-    let h = ready (looked-up (c.before.before.before)) in pass_idle _ _ h.loaded c.states.invariant c.states-test.true
+    let h = ready (looked_up (c.before.before.before)) in pass_idle _ _ h.loaded c.states.invariant c.states-test.true
 
 pub holds-requires : goal.holds-requires
 holds-requires c =
     let d = c.before.before.before.before in
-    let asks = passed_asks (ready (looked-up d)) d.conditions-test.true d.condition_at-condition.ensures d.test_of-test.ensures
+    let asks = passed_asks (ready (looked_up d)) d.conditions-test.true d.condition_at-condition.ensures d.test_of-test.ensures
     c.states.invariant c.states-test.true in
-    record { fits = asks.1.premise _ asks.0; spans = (start (looked-up d)).requires.spans }
+    record { fits = asks.1.premise _ asks.0; spans = (start (looked_up d)).requires.spans }
 
 pub concludes-requires : goal.concludes-requires
 concludes-requires c =
     let d = c.before.before.before.before.before.before in (
-      (start (looked-up d)).requires.spans,
-      passed_asks (ready (looked-up d)) d.conditions-test.true d.condition_at-condition.ensures d.test_of-test.ensures
+      (start (looked_up d)).requires.spans,
+      passed_asks (ready (looked_up d)) d.conditions-test.true d.condition_at-condition.ensures d.test_of-test.ensures
           c.states.invariant c.states-test.true,
     )
 
 pub overflow_add-n : goal.overflow_add-n
-overflow_add-n c = omega (arith, c.states-test.true, states_small (ready (looked-up (c.before.before.before.before.before.before))))
+overflow_add-n c = omega (arith, c.states-test.true, states_small (ready (looked_up (c.before.before.before.before.before.before))))
 
 -- one state more is passed
-moved : (c : Joined-holds
+moved : (c : Joined-holds)
     → passed_in c.before.before.before.before.before.before c.advance-next.result (c.states.n + 1)
 moved c =
     let d = c.before.before.before.before.before.before in
     let premise = c.holds.ensures in
-    passed_more (ready (looked-up d)) d.conditions-test.true d.condition_at-condition.ensures d.test_of-test.ensures
+    passed_more (ready (looked_up d)) d.conditions-test.true d.condition_at-condition.ensures d.test_of-test.ensures
     c.states.invariant c.states-test.true
     (⊎_elim {C = passes_of _ _ _ _ _ ≡ true} (λ w. passes_concluded _ _ _ _ _ premise w.0.taken w.1.ensures ∙ not-false _ w.2.left)
     (λ w. passes_vacuous _ _ _ _ _ premise w.left)
@@ -115,17 +115,17 @@ moved c =
 pub onward-to-requires : goal.onward-to-requires
 onward-to-requires c =
     let d = c.before.before.before.before.before.before.before in
-    let h = ready (looked-up d) in
+    let h = ready (looked_up d) in
     let asks = skip_asks h d.conditions-test.true d.condition_at-condition.ensures d.test_of-test.ensures in
-    record { spans = (start (looked-up d)).requires.spans; fits = asks.0; ranges = asks.1.0; most = asks.1.1; asked = omega (arith, c.if-ask-n.true, c.states-test.true, states_small h) }
+    record { spans = (start (looked_up d)).requires.spans; fits = asks.0; ranges = asks.1.0; most = asks.1.1; asked = omega (arith, c.if-ask-n.true, c.states-test.true, states_small h) }
 
 -- or more, by boxes
-further : (c : After-onward-to
+further : (c : After-onward-to)
     → passed_in c.before.before.before.before.before.before.before.before c.onward-to.result.state c.onward-to.result.number
     × (c.states.n + 1 ≤ c.onward-to.result.number)
 further c =
     let d = c.before.before.before.before.before.before.before.before in
-    passed_onward (ready (looked-up d)) d.conditions-test.true d.condition_at-condition.ensures d.test_of-test.ensures
+    passed_onward (ready (looked_up d)) d.conditions-test.true d.condition_at-condition.ensures d.test_of-test.ensures
     (moved c.before.before) _ _ c.onward-to.ensures
 
 pub states-smaller-then-ask-n : goal.states-smaller-then-ask-n
@@ -143,7 +143,7 @@ states-preserved c = moved (c.before)
 pub overflow_add-number : goal.overflow_add-number
 overflow_add-number c =
     let d = c.before.before.before.before in
-    omega (arith, d.conditions-test.true, total_small (ready (looked-up d)))
+    omega (arith, d.conditions-test.true, total_small (ready (looked_up d)))
 
 pub conditions-smaller : goal.conditions-smaller
 conditions-smaller c = omega (arith, c.conditions-test.true)
@@ -163,13 +163,13 @@ pub overflow_cast-number : goal.overflow_cast-number
 overflow_cast-number c = record { fits = omega (arith, total_small (ready c.before.before.before.before)) }
 
 pub overflow_mul-number : goal.overflow_mul-number
-overflow_mul-number c = omega (arith, tests-fit c.before.before c.if-number-total.true)
+overflow_mul-number c = omega (arith, tests_fit c.before.before c.if-number-total.true)
 
 pub overflow_add-number-then-number-total : goal.overflow_add-number-then-number-total
-overflow_add-number-then-number-total c = omega (arith, tests-fit c.before.before.before c.if-number-total.true)
+overflow_add-number-then-number-total c = omega (arith, tests_fit c.before.before.before c.if-number-total.true)
 
 pub overflow_add-number-then-number-total-2 : goal.overflow_add-number-then-number-total-2
-overflow_add-number-then-number-total-2 c = omega (arith, tests-fit c.before.before.before c.if-number-total.true)
+overflow_add-number-then-number-total-2 c = omega (arith, tests_fit c.before.before.before c.if-number-total.true)
 
 pub named-requires : goal.named-requires
 named-requires c =

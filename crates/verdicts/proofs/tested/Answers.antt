@@ -12,15 +12,15 @@ use Rattle.verdicts.proofs.tested.Goals.{After-condition_at, After-passes, After
 ready : (c : After-total) → Ready c.args.file.now c.args.diagram c.total.result
 ready c = record { loaded = c.requires.loaded; total_is = c.total.ensures }
 
-abbrev looked-up : After-condition_at → After-total
-looked-up c = c.before.before.before.before.before.before
+abbrev looked_up : After-condition_at → After-total
+looked_up c = c.before.before.before.before.before.before
 
 answers : (c : After-passes)
-    → let s = (looked-up c.before.before.before).before.before in
+    → let s = (looked_up c.before.before.before).before.before in
     single_judged s.args.file.now s.args.diagram s.args.condition s.args.state ≡ cond c.passes.result Single.Holds Single.Fails
 answers c =
     let d = c.before.before.before in
-    single_answers (ready (looked-up d)) d.if-total-condition.false d.condition_at.ensures
+    single_answers (ready (looked_up d)) d.if-total-condition.false d.condition_at.ensures
     c.test_of-test.ensures d.if-diagram-state.false c.state_of-s.ensures c.passes.ensures
 
 pub returns-then-total-condition : goal.returns-then-total-condition

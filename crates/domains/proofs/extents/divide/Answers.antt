@@ -10,15 +10,15 @@ use Rattle.domains.proofs.extents.divide.Goals as goal
 use Rattle.domains.proofs.extents.divide.Goals.{After-rises}
 
 -- the ends that the code reads are the extent's
-low-back : (c : After-rises) → let i = c.args.x.span in to_z w64 (of_z w64 i.low) ≡ i.low
-low-back c = back w64 c.args.x.span.low c.struct_told-2-1.given.0.1
+low_back : (c : After-rises) → let i = c.args.x.span in to_z w64 (of_z w64 i.low) ≡ i.low
+low_back c = back w64 c.args.x.span.low c.struct_told-2-1.given.0.1
 
-high-back : (c : After-rises) → let i = c.args.x.span in to_z w64 (of_z w64 i.high) ≡ i.high
-high-back c = back w64 c.args.x.span.high c.struct_told-2-1.given.1.0.1
+high_back : (c : After-rises) → let i = c.args.x.span in to_z w64 (of_z w64 i.high) ≡ i.high
+high_back c = back w64 c.args.x.span.high c.struct_told-2-1.given.1.0.1
 
 rise : (c : After-rises) → let a = c.args in
     c.rises.result ≡ rises_of a.kind a.x.span.low a.x.span.high a.d
-rise c = rw (low-back c, high-back c, to_z-of_z c.ranges.d) at c.rises.ensures
+rise c = rw (low_back c, high_back c, to_z-of_z c.ranges.d) at c.rises.ensures
 
 pub returns-then-rises : goal.returns-then-rises
 unfolding divide_in
@@ -33,8 +33,8 @@ returns-then-rises c =
       back w64 high.result high.type_inv,
       low.ensures,
       high.ensures,
-      low-back r,
-      high-back r,
+      low_back r,
+      high_back r,
       to_z-of_z f.d,
       ← rise r,
       c.if-rises.true,

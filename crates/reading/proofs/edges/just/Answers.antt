@@ -17,13 +17,13 @@ module _ (c : After-shared_slice_known-1) where
   file = c.args.file.now
 
   abbrev place : ℕ
-  place = transition_at file c.before.args.outline c.before.args.t
+  place = transition_at file c.args.outline c.args.t
 
-  entry : get_or c.before.args.t3 c.before.args.t 0 ≡ place
-  entry = transition_entry _ _ _ _ c.before.requires.found c.before.requires.outline.transitions_most c.before.requires.there
+  entry : get_or c.args.places c.args.t 0 ≡ place
+  entry = transition_entry _ _ _ _ c.requires.found c.requires.outline.transitions_most c.requires.there
 
   within : place ≤ length file / 8
-  within = transition_within _ _ _ c.before.requires.outline.transition_here
+  within = transition_within _ _ _ c.requires.outline.transition_here
 
 pub overflow_mul-place : goal.overflow_mul-place
 overflow_mul-place c = omega (arith, entry c, within c)

@@ -17,7 +17,7 @@ use Rattle.searching.proofs.scan.first_failing.Goals.{After-first_ask-ask, After
 abbrev start : After-first_ask-ask → Start
 start d = d.before.before.before.before
 
-states_small : (s : Start → s.args.diagram.states ≤ 1048576
+states_small : (s : Start) → s.args.diagram.states ≤ 1048576
 states_small s = (promised _ _ s.requires.loaded).states.1
 
 pub loop-n-init : goal.loop-n-init
@@ -46,7 +46,7 @@ pub overflow_add-n : goal.overflow_add-n
 overflow_add-n c = omega (arith, c.loop-n-test.true, states_small (start (c.before.before.before.before.before)))
 
 -- one state more is passed
-moved : (c : Joined-holds
+moved : (c : Joined-holds)
     → let s = start c.before.before.before.before.before in
     StatesPassed s.args.diagram (passes_of s.args.diagram.low s.args.diagram.high s.args.file.now s.args.test)
     c.advance-next.result (c.loop-n.n + 1)
@@ -67,7 +67,7 @@ onward-to-requires c =
     record { spans = s.requires.spans; fits = asks.0; ranges = asks.1.0; most = asks.1.1; asked = omega (arith, c.if-ask-n.true, c.loop-n-test.true, small) }
 
 -- or more, by boxes
-further : (c : After-onward-to
+further : (c : After-onward-to)
     → let s = start c.before.before.before.before.before.before.before in
     StatesPassed s.args.diagram (passes_of s.args.diagram.low s.args.diagram.high s.args.file.now s.args.test)
     c.onward-to.result.state c.onward-to.result.number

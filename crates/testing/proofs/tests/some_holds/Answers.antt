@@ -10,8 +10,8 @@ use Rattle.testing.proofs.tests.some_holds.Goals as goal
 use Rattle.testing.proofs.tests.some_holds.Goals.{Start}
 
 -- the array has 32 places
-enough : (s : Start → s.args.count ≤ length s.args.t3
-enough s = let l : length s.args.t3 ≡ 32 = search rules in omega (arith, s.requires.most)
+enough : (s : Start) → s.args.count ≤ length s.args.places
+enough s = let l : length s.args.places ≡ 32 = search rules in omega (arith, s.requires.most)
 
 pub loop-i-init : goal.loop-i-init
 loop-i-init c = (omega arith, refl)

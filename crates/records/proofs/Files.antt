@@ -6,9 +6,12 @@ use Prim.Native.Nat.{ℕ, ◌*◌, ◌/◌, ◌%◌}
 
 -- ---- tables
 -- two functions that give one column agree at each of its rows
+agree_at : {X Y : Type 0} (f g : X → Y) (row : X) {rows : List X} → map f rows ≡ map g rows → Memᴰ row rows → f row ≡ g row
+agree_at f g row e (Memᴰ.head same) = ap f same ∙ head-eq_of_cons-eq e ∙ sym (ap g same)
+agree_at f g row e (Memᴰ.tail member) = agree_at f g row (tail-eq_of_cons-eq e) member
+
 pub agree : {X Y : Type 0} (f g : X → Y) {rows : List X} → map f rows ≡ map g rows → (row : X) → Memᴰ row rows → f row ≡ g row
-agree f g e row (Memᴰ.head same) = ap f same ∙ head-eq_of_cons-eq e ∙ sym (ap g same)
-agree f g e row (Memᴰ.tail member) = agree f g (tail-eq_of_cons-eq e) row member
+agree f g e row member = agree_at f g row e member
 
 -- ---- records
 -- the eight bytes of a record, given as one hexadecimal number

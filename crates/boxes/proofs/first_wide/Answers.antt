@@ -10,14 +10,12 @@ loop-i-init c = narrow_begin _ _ (search rules) (search rules)
 
 pub returns-then-l-h : goal.returns-then-l-h
 returns-then-l-h c =
-    let turn = c.before.before.before in
-    narrow_here _ _ _ turn.loop-i.invariant turn.loop-i-test.true
+    narrow_here _ _ _ c.loop-i.invariant c.loop-i-test.true
     (rw (back w16 _ c.l-1.given, back w16 _ c.h-1.given) at c.if-l-h.true)
 
 pub loop-i-preserved : goal.loop-i-preserved
 loop-i-preserved c =
-    let turn = c.before.before.before in
-    narrow_more _ _ _ turn.loop-i.invariant turn.loop-i-test.true
+    narrow_more _ _ _ c.loop-i.invariant c.loop-i-test.true
     (rw (back w16 _ c.l-1.given, back w16 _ c.h-1.given) at c.if-l-h.false)
 
 pub returns : goal.returns

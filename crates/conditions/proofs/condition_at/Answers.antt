@@ -23,8 +23,7 @@ layout-l-requires c = (promised _ _ c.requires.loaded).transitions
 
 pub returns-then-number-l : goal.returns-then-number-l
 returns-then-number-l c =
-    let s = c.before.before.before.before.before in
-    laid_cover _ _ s.requires.loaded c.layout-l.ensures _ (omega (arith, c.if-number-eq0.false)) c.if-number-l.true
+    laid_cover _ _ c.requires.loaded c.layout-l.ensures _ (omega (arith, c.if-number-eq0.false)) c.if-number-l.true
 
 pub nonzero_div-node : goal.nonzero_div-node
 nonzero_div-node c = (move c.before.before).some
@@ -36,22 +35,22 @@ pub nonzero_rem-k : goal.nonzero_rem-k
 nonzero_rem-k c = (move c.before.before.before.before).some
 
 pub overflow_mul-enabling : goal.overflow_mul-enabling
-overflow_mul-enabling c = omega (arith, double_few _ _ (start c.before.before.before.before.before).requires.loaded _ c.double_of_lem.ensures)
+overflow_mul-enabling c = omega (arith, double_few _ _ (start c.before.before.before.before.before).requires.loaded _ c.double_of-double.ensures)
 
 pub overflow_add-enabling : goal.overflow_add-enabling
-overflow_add-enabling c = omega (arith, double_few _ _ (start c.before.before.before.before.before).requires.loaded _ c.double_of_lem.ensures)
+overflow_add-enabling c = omega (arith, double_few _ _ (start c.before.before.before.before.before).requires.loaded _ c.double_of-double.ensures)
 
 pub returns-then-k-enabling : goal.returns-then-k-enabling
-returns-then-k-enabling c = moved_enabling _ _ (move c.before.before.before.before.before.before) c.before.double_of_lem.ensures c.if-k-enabling.true
+returns-then-k-enabling c = moved_enabling _ _ (move c.before.before.before.before.before.before) c.double_of-double.ensures c.if-k-enabling.true
 
 pub returns-then-k-enabling-2 : goal.returns-then-k-enabling-2
 returns-then-k-enabling-2 c =
     c.pair.ensures
     ∙ moved_before _ _ (move c.before.before.before.before.before.before.before.before)
-    c.before.before.before.double_of_lem.ensures c.if-k-enabling-2.true
+    c.double_of-double.ensures c.if-k-enabling-2.true
 
 pub returns : goal.returns
 returns c =
     c.pair-2.ensures
     ∙ moved_after _ _ (move c.before.before.before.before.before.before.before.before)
-    c.before.before.before.double_of_lem.ensures (omega (arith, c.if-k-enabling.false, c.if-k-enabling-2.false))
+    c.double_of-double.ensures (omega (arith, c.if-k-enabling.false, c.if-k-enabling-2.false))

@@ -28,8 +28,7 @@ transition_places-steps-requires c = transitions_ask _ _ c.requires
 
 pub count-requires : goal.count-requires
 count-requires c =
-    let highs = c.before.before.before.before.before in
-    count_asks _ _ highs.requires highs.lows-low.ensures highs.highs-high.ensures
+    count_asks _ _ c.requires c.lows-low.ensures c.highs-high.ensures
 
 pub overflow_add-result : goal.overflow_add-result
 overflow_add-result c = omega (arith, vars_few _ _ c.requires)
@@ -42,12 +41,9 @@ overflow_add-result-2 c =
 pub returns : goal.returns
 unfolding diagram_of
 returns c =
-    let stepped = c.before.before in
-    let placed = stepped.before.before in
-    let row = placed.property_of-property.ensures in
-    let claimed = placed.before.before in
-    let low = claimed.lows-low.ensures in
-    let high = claimed.highs-high.ensures in
-    let nodes = placed.node_places-nodes.ensures in
-    let assertions = stepped.assertions-assertions.ensures in
-    rw (c.count.ensures, low, high, assertions, nodes, row, stepped.transition_places-steps.ensures, claimed.claim_at-claim.ensures)
+    let row = c.property_of-property.ensures in
+    let low = c.lows-low.ensures in
+    let high = c.highs-high.ensures in
+    let nodes = c.node_places-nodes.ensures in
+    let assertions = c.assertions-assertions.ensures in
+    rw (c.count.ensures, low, high, assertions, nodes, row, c.transition_places-steps.ensures, c.claim_at-claim.ensures)

@@ -10,4 +10,4 @@ q_number-requires c = omega (arith, (keeps c.requires.loaded).nodes.1)
 
 pub returns : goal.returns
 unfolding q_at
-returns c = c.claimed_at_lem.ensures ∙ ap (claimed_at _ _) c.q_number.ensures
+returns c = c.claimed_at.ensures ∙ ap (claimed_at _ _) c.q_number.ensures

@@ -8,8 +8,7 @@ use Rattle.evaluating.proofs.in_range.Goals as goal
 pub returns : goal.returns
 unfolding in_range_of
 returns c =
-    let start = c.before.before.before in
     let low = c.element-l in
     let high = c.element-h in
-    let x = back w64 start.args.x start.ranges.x.sfits in
+    let x = back w64 c.args.x c.ranges.x.sfits in
     c.between.ensures ∙ rw (back w64 low.result low.type_inv, back w64 high.result high.type_inv, x, low.ensures, high.ensures)

@@ -28,34 +28,33 @@ pub slice_bounds-truth_at-count : goal.slice_bounds-truth_at-count
 slice_bounds-truth_at-count c = omega (arith, here c.before)
 
 pub truth_at-requires : goal.truth_at-requires
-truth_at-requires c = let s = c.before.before in lent _ _ s.requires.spans truth_sort (s.args.at + 1) _ s.requires.fits.guard
+truth_at-requires c = lent _ _ c.requires.spans truth_sort (c.args.at + 1) _ c.requires.fits.guard
 
 pub returns-then-not-truth_at : goal.returns-then-not-truth_at
 unfolding guard_of
-returns-then-not-truth_at c = let s = c.before.before.before.before in
+returns-then-not-truth_at c = 
     step_off _ _ _ _ _
-    ((rw (take_rest (8 * (s.args.at + 1)) s.args.file.now) at (sym c.truth_at.ensures)) ∙ not-true _ c.if-not-truth_at.true-raw)
+    ((rw (take_rest (8 * (c.args.at + 1)) c.args.file.now) at (sym c.truth_at.ensures)) ∙ not-true _ c.if-not-truth_at.true-raw)
 
 pub offset_bounds-spans-from : goal.offset_bounds-spans-from
 offset_bounds-spans-from c = omega (arith, here c.before.before.before.before)
 
 pub bounds-spans-from : goal.bounds-spans-from
-bounds-spans-from c = let s = c.before.before.before.before in entry _ _ s.requires.spans truth_sort (s.args.at + 1) _ s.requires.fits.guard
+bounds-spans-from c = entry _ _ c.requires.spans truth_sort (c.args.at + 1) _ c.requires.fits.guard
 
 pub overflow_cast-spans : goal.overflow_cast-spans
-overflow_cast-spans c = let s = c.before.before.before.before.before in omega (arith, here s, end s)
+overflow_cast-spans c = omega (arith, here c.before.before.before.before.before, end c.before.before.before.before.before)
 
 pub overflow_add-from-2 : goal.overflow_add-from-2
-overflow_add-from-2 c = let s = c.before.before.before.before.before in omega (arith, here s, end s)
+overflow_add-from-2 c = omega (arith, here c.before.before.before.before.before, end c.before.before.before.before.before)
 
 pub updates-found-requires : goal.updates-found-requires
-updates-found-requires c = let s = c.before.before.before.before.before in
-    record { spans = s.requires.spans; fits = rw (behind_is _ _ s.requires.spans truth_sort (s.args.at + 1) _ s.requires.fits.guard) s.requires.fits.updates }
+updates-found-requires c = 
+    record { spans = c.requires.spans; fits = rw (behind_is _ _ c.requires.spans truth_sort (c.args.at + 1) _ c.requires.fits.guard) c.requires.fits.updates }
 
 pub returns : goal.returns
 unfolding guard_of
 returns c =
-    let s = c.before.before.before.before.before.before.before.before in
     step_on _ _ _ _ _
-    ((rw (take_rest (8 * (s.args.at + 1)) s.args.file.now) at (sym c.truth_at.ensures)) ∙ not-false _ c.if-not-truth_at.false-raw)
-    (rw (behind_is _ _ s.requires.spans truth_sort (s.args.at + 1) _ s.requires.fits.guard) at c.updates-found.ensures)
+    ((rw (take_rest (8 * (c.args.at + 1)) c.args.file.now) at (sym c.truth_at.ensures)) ∙ not-false _ c.if-not-truth_at.false-raw)
+    (rw (behind_is _ _ c.requires.spans truth_sort (c.args.at + 1) _ c.requires.fits.guard) at c.updates-found.ensures)

@@ -6,15 +6,15 @@ use Rattle.evaluating.specs.Transition.{update_at}
 use Rattle.evaluating.proofs.update_at.Goals as goal
 
 pub pick_at-requires : goal.pick_at-requires
-pick_at-requires c = omega (arith, (kind_is_lem _ _ _ (if_taken c.before.kind_is_lem.ensures c.if-kind_is.true)).0)
+pick_at-requires c = omega (arith, (kind_is_lem _ _ _ (if_taken c.kind_is.ensures c.if-kind_is.true)).0)
 
 pub returns-then-kind_is : goal.returns-then-kind_is
 unfolding update_at
-returns-then-kind_is c = rw (if_taken c.before.before.kind_is_lem.ensures c.if-kind_is.true) c.pick_at.ensures
+returns-then-kind_is c = rw (if_taken c.kind_is.ensures c.if-kind_is.true) c.pick_at.ensures
 
 pub assignment_at-requires : goal.assignment_at-requires
-assignment_at-requires c = record { fits = c.requires.fits.value (if_left c.before.kind_is_lem.ensures c.if-kind_is.false); spans = c.requires.spans }
+assignment_at-requires c = record { fits = c.requires.fits.value (if_left c.kind_is.ensures c.if-kind_is.false); spans = c.requires.spans }
 
 pub returns : goal.returns
 unfolding update_at
-returns c = rw (if_left c.before.before.kind_is_lem.ensures c.if-kind_is.false) c.assignment_at.ensures
+returns c = rw (if_left c.kind_is.ensures c.if-kind_is.false) c.assignment_at.ensures

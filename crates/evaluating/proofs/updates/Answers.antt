@@ -40,38 +40,35 @@ in_range-requires c = variable (c.before.before)
 
 pub returns-then-not-in_range : goal.returns-then-not-in_range
 returns-then-not-in_range c =
-    let u = c.before.before.before.before in
-    let held = back w64 u.update_at-u.result.low c.struct_told-1.given.1.0.1 in
-    let out = rw held at (sym c.before.in_range_lem.ensures ∙ not-true _ c.if-not-in_range.true-raw) in
-    left_low _ _ _ _ _ c.loop-left.invariant _ (left_some u.before) (named u.before) u.update_at-u.ensures out
+    let held = back w64 c.update_at-u.result.low c.struct_told-1.given.1.0.1 in
+    let out = rw held at (sym c.in_range.ensures ∙ not-true _ c.if-not-in_range.true-raw) in
+    left_low _ _ _ _ _ c.loop-left.invariant _ (left_some c.before.before.before.before.before) (named c.before.before.before.before.before) c.update_at-u.ensures out
 
 pub in_range-requires-in-loop-left : goal.in_range-requires-in-loop-left
 in_range-requires-in-loop-left c = variable (c.before.before.before.before)
 
 pub returns-then-not-in_range-2 : goal.returns-then-not-in_range-2
 returns-then-not-in_range-2 c =
-    let u = c.before.before.before.before.before.before in
-    let low = back w64 u.update_at-u.result.low c.struct_told-1.given.1.0.1 in
-    let high = back w64 u.update_at-u.result.high c.struct_told-in-loop-left-1.given.1.1.0.1 in
-    let inside = rw low at (sym c.before.before.before.in_range_lem.ensures ∙ not-false _ c.if-not-in_range.false-raw) in
+    let low = back w64 c.update_at-u.result.low c.struct_told-1.given.1.0.1 in
+    let high = back w64 c.update_at-u.result.high c.struct_told-in-loop-left-1.given.1.1.0.1 in
+    let inside = rw low at (sym c.in_range.ensures ∙ not-false _ c.if-not-in_range.false-raw) in
     let out = rw high at (sym c.in_range-in-loop-left.ensures ∙ not-true _ c.if-not-in_range-2.true-raw) in
-    left_high _ _ _ _ _ c.loop-left.invariant _ (left_some u.before) (named u.before) u.update_at-u.ensures inside out
+    left_high _ _ _ _ _ c.loop-left.invariant _ (left_some c.before.before.before.before.before.before.before) (named c.before.before.before.before.before.before.before) c.update_at-u.ensures inside out
 
 pub with-lower-requires : goal.with-lower-requires
-with-lower-requires c = record { variable = variable (c.before.before.before.before.before.before); range = sym c.before.before.before.in_range_lem.ensures ∙ not-false _ c.if-not-in_range.false-raw }
+with-lower-requires c = record { variable = variable (c.before.before.before.before.before.before); range = sym c.in_range.ensures ∙ not-false _ c.if-not-in_range.false-raw }
 
 pub with-upper-requires : goal.with-upper-requires
 with-upper-requires c = record { variable = variable (c.before.before.before.before.before.before.before); range = sym c.in_range-in-loop-left.ensures ∙ not-false _ c.if-not-in_range-2.false-raw }
 
 pub loop-left-preserved : goal.loop-left-preserved
 loop-left-preserved c =
-    let u = c.before.before.before.before.before.before.before.before in
-    let low = back w64 u.update_at-u.result.low c.struct_told-1.given.1.0.1 in
-    let high = back w64 u.update_at-u.result.high c.struct_told-in-loop-left-1.given.1.1.0.1 in
-    let inside = rw low at (sym c.before.before.before.before.before.in_range_lem.ensures ∙ not-false _ c.if-not-in_range.false-raw) in
+    let low = back w64 c.update_at-u.result.low c.struct_told-1.given.1.0.1 in
+    let high = back w64 c.update_at-u.result.high c.struct_told-in-loop-left-1.given.1.1.0.1 in
+    let inside = rw low at (sym c.in_range.ensures ∙ not-false _ c.if-not-in_range.false-raw) in
     let also = rw high at (sym c.in_range-in-loop-left.ensures ∙ not-false _ c.if-not-in_range-2.false-raw) in
     rw (c.with-lower.ensures, c.with-upper.ensures, low, high)
-    (left_more _ _ _ _ _ c.loop-left.invariant _ (left_some u.before) (named u.before) u.update_at-u.ensures inside also)
+    (left_more _ _ _ _ _ c.loop-left.invariant _ (left_some c.before.before.before.before.before.before.before.before.before) (named c.before.before.before.before.before.before.before.before.before) c.update_at-u.ensures inside also)
 
 pub returns : goal.returns
 returns c = left_end _ _ _ _ _ c.loop-left.invariant (omega arith)

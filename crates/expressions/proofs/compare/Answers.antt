@@ -7,13 +7,13 @@ use Rattle.expressions.proofs.compare.Goals as goal
 
 pub returns-in-39 : goal.returns-in-39
 unfolding compare_of
-returns-in-39 c = let s = c.before in rw (bits_equal s.ranges.x s.ranges.y, c.in-39.is)
+returns-in-39 c = rw (bits_equal c.ranges.x c.ranges.y, c.in-39.is)
 
 pub returns-in-40 : goal.returns-in-40
 unfolding compare_of
-returns-in-40 c = let s = c.before in rw (to_z-of_z s.ranges.x, to_z-of_z s.ranges.y, c.in-40.is)
+returns-in-40 c = rw (to_z-of_z c.ranges.x, to_z-of_z c.ranges.y, c.in-40.is)
 
 pub returns-in_default : goal.returns-in_default
 unfolding compare_of
-returns-in_default c = let s = c.before in rw
-    (to_z-of_z s.ranges.x, to_z-of_z s.ranges.y, ne_eqb s.args.kind 0x27 c.in_default.rest.0.1, ne_eqb s.args.kind 0x28 c.in_default.rest.1)
+returns-in_default c = rw
+    (to_z-of_z c.ranges.x, to_z-of_z c.ranges.y, ne_eqb c.args.kind 0x27 c.in_default.rest.0.1, ne_eqb c.args.kind 0x28 c.in_default.rest.1)

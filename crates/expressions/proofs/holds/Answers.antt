@@ -19,8 +19,8 @@ pub slice_bounds-truth_at-count : goal.slice_bounds-truth_at-count
 slice_bounds-truth_at-count c = omega (arith, here c.before)
 
 pub truth_at-requires : goal.truth_at-requires
-truth_at-requires c = let s = c.before.before in lent _ _ s.requires.spans truth_sort s.args.at _ s.requires.fits
+truth_at-requires c = lent _ _ c.requires.spans truth_sort c.args.at _ c.requires.fits
 
 pub returns : goal.returns
 unfolding holds_of
-returns c = let s = c.before.before.before in rw (c.truth_at.ensures, take_rest (8 * s.args.at) s.args.file.now)
+returns c = rw (c.truth_at.ensures, take_rest (8 * c.args.at) c.args.file.now)

@@ -13,24 +13,21 @@ unfolding divided_by
 returns-then-kind-eq24 c =
     let low = c.divide in
     let high = c.divide-then-kind-eq24 in
-    let ends = c.before.before.before in
-    let s = ends.before.before in
-    let i = s.args.i in
+    let i = c.args.i in
     rw (
       back w64 low.result low.type_inv,
       back w64 high.result high.type_inv,
       low.ensures,
       high.ensures,
-      back w64 i.low ends.struct_told-2-1.given.0.1,
-      back w64 i.high ends.struct_told-2-1.given.1.0.1,
-      to_z-of_z s.ranges.d,
+      back w64 i.low c.struct_told-2-1.given.0.1,
+      back w64 i.high c.struct_told-2-1.given.1.0.1,
+      to_z-of_z c.ranges.d,
       eq-eqb _ _ c.if-kind-eq24.true,
     )
 
 pub overflow_sub-result : goal.overflow_sub-result
 overflow_sub-result c =
-    let s = c.before.before.before in
-    rw (to_z-of_z s.ranges.d) (less_fits s.args.d s.requires s.ranges.d)
+    rw (to_z-of_z c.ranges.d) (less_fits c.args.d c.requires c.ranges.d)
 
 pub returns : goal.returns
 unfolding divided_by

@@ -11,8 +11,7 @@ loop-at-init c = scan_begins _ _ refl
 
 pub loop-at-preserved-then-sort-eq-NONE : goal.loop-at-preserved-then-sort-eq-NONE
 loop-at-preserved-then-sort-eq-NONE c =
-    let loop = c.before.before in
-    scan_skip _ _ _ loop.loop-at-test.true (rw c.signature_at-sort.ensures at c.if-sort-eq-NONE.true) loop.loop-at.invariant
+    scan_skip _ _ _ c.loop-at-test.true (rw c.signature_at-sort.ensures at c.if-sort-eq-NONE.true) c.loop-at.invariant
 
 pub loop-at-smaller : goal.loop-at-smaller
 loop-at-smaller c =
@@ -21,17 +20,13 @@ loop-at-smaller c =
 
 pub loop-at-preserved : goal.loop-at-preserved
 loop-at-preserved c =
-    let begins = c.before.before.before.before in
-    let loop = begins.before.before in
     let within = sym c.analyse-analysis.ensures ∙ c.in-Within.is in
-    scan_next _ _ _ loop.loop-at-test.true (rw begins.signature_at-sort.ensures at begins.if-sort-eq-NONE.false) _ _ within loop.loop-at.invariant
+    scan_next _ _ _ c.loop-at-test.true (rw c.signature_at-sort.ensures at c.if-sort-eq-NONE.false) _ _ within c.loop-at.invariant
 
 pub returns-in-Out : goal.returns-in-Out
 returns-in-Out c =
-    let begins = c.before.before.before.before in
-    let loop = begins.before.before in
     let out = sym c.analyse-analysis.ensures ∙ c.in-Out.is in
-    sym (scan_out _ _ _ loop.loop-at-test.true (rw begins.signature_at-sort.ensures at begins.if-sort-eq-NONE.false) _ out loop.loop-at.invariant)
+    sym (scan_out _ _ _ c.loop-at-test.true (rw c.signature_at-sort.ensures at c.if-sort-eq-NONE.false) _ out c.loop-at.invariant)
 
 pub returns : goal.returns
 returns c = sym (scan_over _ _ _ c.loop-at-test.false c.loop-at.invariant)

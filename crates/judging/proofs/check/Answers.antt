@@ -14,6 +14,5 @@ returns-then-report-lt32 c =
 
 pub returns : goal.returns
 returns c =
-    let d = c.before.before.before.before in
-    let e = d.verdict-found.ensures ∙ sym (check_long _ d.if-report-lt32.false) in
+    let e = c.verdict-found.ensures ∙ sym (check_long _ c.if-report-lt32.false) in
     record { verdict = e; written = c.write_report.ensures; decides = check_decides _ _ e; sound = check_claims _ _ e }

@@ -20,11 +20,9 @@ parse_start-requires c = variables_limit _ _ _ (sym c.variables-found.ensures âˆ
 
 pub returns-in-Items : goal.returns-in-Items
 returns-in-Items c =
-    let s = c.before.before.before.before in
-    variables_counted _ s.if-file-ne0.false s.if-file-gt32768.false s.variables-found.ensures c.in-Items.is
+    variables_counted _ c.if-file-ne0.false c.if-file-gt32768.false c.variables-found.ensures c.in-Items.is
     c.parse_start.ensures
 
 pub returns-in-Refused : goal.returns-in-Refused
 returns-in-Refused c =
-    let s = c.before.before.before in
-    variables_refused _ s.if-file-ne0.false s.if-file-gt32768.false s.variables-found.ensures c.in-Refused.is
+    variables_refused _ c.if-file-ne0.false c.if-file-gt32768.false c.variables-found.ensures c.in-Refused.is

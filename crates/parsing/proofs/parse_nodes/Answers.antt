@@ -8,45 +8,34 @@ use Rattle.parsing.proofs.parse_nodes.Goals as goal
 
 pub returns-then-count-phases_or : goal.returns-then-count-phases_or
 returns-then-count-phases_or c =
-    let n = c.before.before.before.before.before in
-    let row = n.property_of-row.ensures in
-    let claim = n.claim_at.ensures in
-    nodes_few _ _ _ _ _ _ (row ∙ ap property_of claim) n.phases_or-most.ensures.0 n.nodes-found.ensures c.in-Items.is
+    let row = c.property_of-row.ensures in
+    let claim = c.claim_at.ensures in
+    nodes_few _ _ _ _ _ _ (row ∙ ap property_of claim) c.phases_or-most.ensures.0 c.nodes-found.ensures c.in-Items.is
     c.phases_or.ensures.0 c.if-count-phases_or.true
 
 pub returns-then-end-file : goal.returns-then-end-file
 returns-then-end-file c =
-    let e = c.before.before.before.before in
-    let f = e.before.before.before.before in
-    let n = f.before.before in
-    let row = n.property_of-row.ensures in
-    let claim = n.claim_at.ensures in
-    edges_followed _ _ _ _ _ _ (row ∙ ap property_of claim) n.phases_or-most.ensures.0 n.nodes-found.ensures f.in-Items.is
-    e.phases_or.ensures.0 e.if-count-phases_or.false e.edges-last.ensures c.in-Items-last.is c.if-end-file.true
+    let row = c.property_of-row.ensures in
+    let claim = c.claim_at.ensures in
+    edges_followed _ _ _ _ _ _ (row ∙ ap property_of claim) c.phases_or-most.ensures.0 c.nodes-found.ensures c.in-Items.is
+    c.phases_or.ensures.0 c.if-count-phases_or.false c.edges-last.ensures c.in-Items-last.is c.if-end-file.true
 
 pub returns-else-end-file : goal.returns-else-end-file
 returns-else-end-file c =
-    let e = c.before.before.before.before in
-    let f = e.before.before.before.before in
-    let n = f.before.before in
-    let row = n.property_of-row.ensures in
-    let claim = n.claim_at.ensures in
-    edges_whole _ _ _ _ _ _ (row ∙ ap property_of claim) n.phases_or-most.ensures.0 n.nodes-found.ensures f.in-Items.is
-    e.phases_or.ensures.0 e.if-count-phases_or.false e.edges-last.ensures c.in-Items-last.is c.if-end-file.false
+    let row = c.property_of-row.ensures in
+    let claim = c.claim_at.ensures in
+    edges_whole _ _ _ _ _ _ (row ∙ ap property_of claim) c.phases_or-most.ensures.0 c.nodes-found.ensures c.in-Items.is
+    c.phases_or.ensures.0 c.if-count-phases_or.false c.edges-last.ensures c.in-Items-last.is c.if-end-file.false
 
 pub returns-in-Refused-last : goal.returns-in-Refused-last
 returns-in-Refused-last c =
-    let e = c.before.before.before in
-    let f = e.before.before.before.before in
-    let n = f.before.before in
-    let row = n.property_of-row.ensures in
-    let claim = n.claim_at.ensures in
-    edges_refused _ _ _ _ _ _ (row ∙ ap property_of claim) n.phases_or-most.ensures.0 n.nodes-found.ensures f.in-Items.is
-    e.phases_or.ensures.0 e.if-count-phases_or.false e.edges-last.ensures c.in-Refused-last.is
+    let row = c.property_of-row.ensures in
+    let claim = c.claim_at.ensures in
+    edges_refused _ _ _ _ _ _ (row ∙ ap property_of claim) c.phases_or-most.ensures.0 c.nodes-found.ensures c.in-Items.is
+    c.phases_or.ensures.0 c.if-count-phases_or.false c.edges-last.ensures c.in-Refused-last.is
 
 pub returns-in-Refused : goal.returns-in-Refused
 returns-in-Refused c =
-    let n = c.before.before.before in
-    let row = n.property_of-row.ensures in
-    let claim = n.claim_at.ensures in
-    nodes_refused _ _ _ _ _ _ (row ∙ ap property_of claim) n.phases_or-most.ensures.0 n.nodes-found.ensures c.in-Refused.is
+    let row = c.property_of-row.ensures in
+    let claim = c.claim_at.ensures in
+    nodes_refused _ _ _ _ _ _ (row ∙ ap property_of claim) c.phases_or-most.ensures.0 c.nodes-found.ensures c.in-Refused.is

@@ -7,37 +7,31 @@ use Rattle.parsing.proofs.Steps.Outline.{property_unnamed, property_field, prope
 use Rattle.parsing.proofs.parse_property.Goals as goal
 
 pub returns-then-not-kind_is : goal.returns-then-not-kind_is
-returns-then-not-kind_is c = property_unnamed _ _ _ _ _ c.before.kind_is_lem.ensures c.if-not-kind_is.true-raw
+returns-then-not-kind_is c = property_unnamed _ _ _ _ _ c.kind_is.ensures c.if-not-kind_is.true-raw
 
 pub property_fields-requires : goal.property_fields-requires
-property_fields-requires c = omega (arith, (kind_is_lem _ _ _ (unless_left c.before.kind_is_lem.ensures c.if-not-kind_is.false-raw)).0)
+property_fields-requires c = omega (arith, (kind_is_lem _ _ _ (unless_left c.kind_is.ensures c.if-not-kind_is.false-raw)).0)
 
 pub returns-then-not-property_fields : goal.returns-then-not-property_fields
 returns-then-not-property_fields c =
-    let f = c.before in
-    property_field _ _ _ _ _ f.before.before.kind_is_lem.ensures f.if-not-kind_is.false-raw f.property_fields.ensures c.if-not-property_fields.true-raw
+    property_field _ _ _ _ _ c.kind_is.ensures c.if-not-kind_is.false-raw c.property_fields.ensures c.if-not-property_fields.true-raw
 
 pub expressions-requires : goal.expressions-requires
-expressions-requires c = let i = c.before.before in omega (arith, (kind_is_lem _ _ _ (unless_left i.before.kind_is_lem.ensures i.if-not-kind_is.false-raw)).0)
+expressions-requires c = omega (arith, (kind_is_lem _ _ _ (unless_left c.kind_is.ensures c.if-not-kind_is.false-raw)).0)
 
 pub overflow_add-property : goal.overflow_add-property
-overflow_add-property c = let i = c.before.before.before in omega (arith, (kind_is_lem _ _ _ (unless_left i.before.kind_is_lem.ensures i.if-not-kind_is.false-raw)).0)
+overflow_add-property c = omega (arith, (kind_is_lem _ _ _ (unless_left c.kind_is.ensures c.if-not-kind_is.false-raw)).0)
 
 pub parse_nodes-requires : goal.parse_nodes-requires
 parse_nodes-requires c =
-    let i = c.before.before.before.before.before.before.before in
-    omega (arith, (kind_is_lem _ _ _ (unless_left i.before.kind_is_lem.ensures i.if-not-kind_is.false-raw)).0)
+    omega (arith, (kind_is_lem _ _ _ (unless_left c.kind_is.ensures c.if-not-kind_is.false-raw)).0)
 
 pub returns-in-End : goal.returns-in-End
 returns-in-End c =
-    let w = c.before.before.before.before in
-    let f = w.before.before.before in
-    property_ends _ _ _ _ _ f.before.before.kind_is_lem.ensures f.if-not-kind_is.false-raw f.property_fields.ensures w.if-not-property_fields.false-raw
-    w.expressions.ensures w.truths-found.ensures c.in-End.is c.parse_nodes.ensures
+    property_ends _ _ _ _ _ c.kind_is.ensures c.if-not-kind_is.false-raw c.property_fields.ensures c.if-not-property_fields.false-raw
+    c.expressions.ensures c.truths-found.ensures c.in-End.is c.parse_nodes.ensures
 
 pub returns-in-Refused : goal.returns-in-Refused
 returns-in-Refused c =
-    let w = c.before.before.before in
-    let f = w.before.before.before in
-    property_refused _ _ _ _ _ f.before.before.kind_is_lem.ensures f.if-not-kind_is.false-raw f.property_fields.ensures w.if-not-property_fields.false-raw
-    w.expressions.ensures w.truths-found.ensures c.in-Refused.is
+    property_refused _ _ _ _ _ c.kind_is.ensures c.if-not-kind_is.false-raw c.property_fields.ensures c.if-not-property_fields.false-raw
+    c.expressions.ensures c.truths-found.ensures c.in-Refused.is

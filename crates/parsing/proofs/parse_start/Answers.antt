@@ -13,37 +13,30 @@ unfolding start_parsed
 returns-then-vars-lt1 c = simp (lt-leb _ _ c.if-vars-lt1.true)
 
 pub returns-then-not-kind_is : goal.returns-then-not-kind_is
-returns-then-not-kind_is c = start_unnamed _ _ _ c.if-vars-lt1.false c.before.kind_is_lem.ensures c.if-not-kind_is.true-raw
+returns-then-not-kind_is c = start_unnamed _ _ _ c.if-vars-lt1.false c.kind_is.ensures c.if-not-kind_is.true-raw
 
 pub overflow_mul-at : goal.overflow_mul-at
-overflow_mul-at c = omega (arith, (kind_is_lem _ _ _ (unless_left c.before.kind_is_lem.ensures c.if-not-kind_is.false-raw)).0)
+overflow_mul-at c = omega (arith, (kind_is_lem _ _ _ (unless_left c.kind_is.ensures c.if-not-kind_is.false-raw)).0)
 
 pub overflow_add-at : goal.overflow_add-at
-overflow_add-at c = omega (arith, (kind_is_lem _ _ _ (unless_left c.before.kind_is_lem.ensures c.if-not-kind_is.false-raw)).0)
+overflow_add-at c = omega (arith, (kind_is_lem _ _ _ (unless_left c.kind_is.ensures c.if-not-kind_is.false-raw)).0)
 
 pub zeros-requires : goal.zeros-requires
-zeros-requires c = omega (arith, (kind_is_lem _ _ _ (unless_left c.before.kind_is_lem.ensures c.if-not-kind_is.false-raw)).0)
+zeros-requires c = omega (arith, (kind_is_lem _ _ _ (unless_left c.kind_is.ensures c.if-not-kind_is.false-raw)).0)
 
 pub returns-then-not-zeros : goal.returns-then-not-zeros
 returns-then-not-zeros c =
-    let n = c.before.before.before in
-    start_field _ _ _ n.if-vars-lt1.false n.kind_is_lem.ensures c.if-not-kind_is.false-raw c.zeros.ensures c.if-not-zeros.true-raw
+    start_field _ _ _ c.if-vars-lt1.false c.kind_is.ensures c.if-not-kind_is.false-raw c.zeros.ensures c.if-not-zeros.true-raw
 
 pub overflow_add-at-2 : goal.overflow_add-at-2
-overflow_add-at-2 c = let i = c.before.before in omega (arith, (kind_is_lem _ _ _ (unless_left i.before.kind_is_lem.ensures i.if-not-kind_is.false-raw)).0)
+overflow_add-at-2 c = omega (arith, (kind_is_lem _ _ _ (unless_left c.kind_is.ensures c.if-not-kind_is.false-raw)).0)
 
 pub returns-in-End : goal.returns-in-End
 returns-in-End c =
-    let w = c.before.before.before.before in
-    let z = w.before.before in
-    let n = z.before.before in
-    start_ends _ _ _ n.if-vars-lt1.false n.kind_is_lem.ensures z.if-not-kind_is.false-raw z.zeros.ensures w.if-not-zeros.false-raw w.walk-found.ensures
+    start_ends _ _ _ c.if-vars-lt1.false c.kind_is.ensures c.if-not-kind_is.false-raw c.zeros.ensures c.if-not-zeros.false-raw c.walk-found.ensures
     c.in-End.is c.parse_transitions.ensures
 
 pub returns-in-Refused : goal.returns-in-Refused
 returns-in-Refused c =
-    let w = c.before.before.before in
-    let z = w.before.before in
-    let n = z.before.before in
-    start_refused _ _ _ n.if-vars-lt1.false n.kind_is_lem.ensures z.if-not-kind_is.false-raw z.zeros.ensures w.if-not-zeros.false-raw w.walk-found.ensures
+    start_refused _ _ _ c.if-vars-lt1.false c.kind_is.ensures c.if-not-kind_is.false-raw c.zeros.ensures c.if-not-zeros.false-raw c.walk-found.ensures
     c.in-Refused.is

@@ -11,13 +11,11 @@ loop-left-init c = (refl, (c.requires.0, c.requires.1))
 
 pub returns-then-file-k : goal.returns-then-file-k
 returns-then-file-k c =
-    let t = c.before.before.before in
-    sym (t.loop-left.invariant.0 ∙ same_step _ _ _ _ t.loop-left-test.true ∙ simp (ne_eqb _ _ c.if-file-k.true))
+    sym (c.loop-left.invariant.0 ∙ same_step _ _ _ _ c.loop-left-test.true ∙ simp (ne_eqb _ _ c.if-file-k.true))
 
 pub loop-left-preserved : goal.loop-left-preserved
 loop-left-preserved c =
-    let t = c.before.before.before in
-    (t.loop-left.invariant.0 ∙ same_step _ _ _ _ t.loop-left-test.true ∙ simp (eq-eqb _ _ c.if-file-k.false), omega arith)
+    (c.loop-left.invariant.0 ∙ same_step _ _ _ _ c.loop-left-test.true ∙ simp (eq-eqb _ _ c.if-file-k.false), omega arith)
 
 pub returns : goal.returns
 returns c = sym (c.loop-left.invariant.0 ∙ same_none _ _ _ _ c.loop-left-test.false)

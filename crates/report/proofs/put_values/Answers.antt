@@ -28,9 +28,8 @@ bounds-report-i-in-loop-i c = simp length-set (omega arith)
 
 pub loop-i-preserved : goal.loop-i-preserved
 loop-i-preserved c =
-    let a = c.before.before.before.before.before.before in
     let f = to_z-of_z (value_fits c.before.before) in
-    filled_more _ _ a.requires (twelve a) c.loop-i.invariant c.loop-i-test.true
+    filled_more _ _ c.requires (twelve c.before.before.before.before.before.before) c.loop-i.invariant c.loop-i-test.true
     (rw f at c.low_byte-low.ensures) (rw f at c.high_byte-high.ensures)
 
 pub returns : goal.returns

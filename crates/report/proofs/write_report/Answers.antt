@@ -40,9 +40,9 @@ shape_of-report c = c.put_values.auto.1.0 ∙ simp length-set
 
 pub returns : goal.returns
 unfolding report_of report_bytes
-returns c = let a = c.before.before.before.before.before.before.before in
-    let v = a.args.verdict in
-    let r = a.args.report.now in
+returns c = 
+    let v = c.args.verdict in
+    let r = c.args.report.now in
     let bytes : List ℕ = v.number ∷ v.node ∷ v.transition ∷ 0 ∷ v.at % 256 ∷ v.at / 256 % 256 ∷ v.at / 65536 % 256 ∷ v.at / 16777216 ∷ [] in
     let e : sets r 0 bytes ≡ bytes ++ drop 8 r = sets-eq bytes r 0 (omega arith) in
     rw (le-ltb (length r) 32 (omega arith), ← drop-drop 24 8 r) (rw e at c.put_values.ensures)

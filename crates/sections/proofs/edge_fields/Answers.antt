@@ -21,11 +21,10 @@ returns-then-nodes-word_at c = simp (lt-ltb _ _ c.if-transitions-file.false, sym
 pub returns-then-nodes-word_at-2 : goal.returns-then-nodes-word_at-2
 unfolding edge_fields
 returns-then-nodes-word_at-2 c =
-    let f = c.before.before in
     simp (
-      lt-ltb _ _ f.if-transitions-file.false,
-      sym f.word_at.ensures.0,
-      lt-ltb _ _ f.if-nodes-word_at.false,
+      lt-ltb _ _ c.if-transitions-file.false,
+      sym c.word_at.ensures.0,
+      lt-ltb _ _ c.if-nodes-word_at.false,
       sym c.word_at-2.ensures.0,
       le-ltb _ _ c.if-nodes-word_at-2.true,
     )
@@ -33,28 +32,24 @@ returns-then-nodes-word_at-2 c =
 pub returns-then-file-base-gt1 : goal.returns-then-file-base-gt1
 unfolding edge_fields
 returns-then-file-base-gt1 c =
-    let t = c.before.before in
-    let f = t.before.before in
     simp (
-      lt-ltb _ _ f.if-transitions-file.false,
-      sym f.word_at.ensures.0,
-      lt-ltb _ _ f.if-nodes-word_at.false,
-      sym t.word_at-2.ensures.0,
-      lt-ltb _ _ t.if-nodes-word_at-2.false,
+      lt-ltb _ _ c.if-transitions-file.false,
+      sym c.word_at.ensures.0,
+      lt-ltb _ _ c.if-nodes-word_at.false,
+      sym c.word_at-2.ensures.0,
+      lt-ltb _ _ c.if-nodes-word_at-2.false,
       lt-leb _ _ c.if-file-base-gt1.true,
     )
 
 pub returns : goal.returns
 unfolding edge_fields
 returns c =
-    let t = c.before.before.before in
-    let f = t.before.before in
     simp (
-      lt-ltb _ _ f.if-transitions-file.false,
-      sym f.word_at.ensures.0,
-      lt-ltb _ _ f.if-nodes-word_at.false,
-      sym t.word_at-2.ensures.0,
-      lt-ltb _ _ t.if-nodes-word_at-2.false,
+      lt-ltb _ _ c.if-transitions-file.false,
+      sym c.word_at.ensures.0,
+      lt-ltb _ _ c.if-nodes-word_at.false,
+      sym c.word_at-2.ensures.0,
+      lt-ltb _ _ c.if-nodes-word_at-2.false,
       le-leb _ _ c.if-file-base-gt1.false,
     )
     c.zeros.ensures

@@ -9,45 +9,33 @@ pub loop-item-init : goal.loop-item-init
 loop-item-init c = (rw c.kind_of-kind.ensures, omega arith)
 
 pub fields-requires : goal.fields-requires
-fields-requires c = omega (arith, found_here _ _ _ c.before.kind_is_lem.ensures c.loop-item-test.true)
+fields-requires c = omega (arith, found_here _ _ _ c.kind_is.ensures c.loop-item-test.true)
 
 pub returns-then-not-fields : goal.returns-then-not-fields
 returns-then-not-fields c =
-    let f = c.before in
-    let k = f.before.before in
-    items_field _ _ _ _ _ _ k.kind_is_lem.ensures f.loop-item-test.true f.fields.ensures _ k.loop-item.invariant.0 c.if-not-fields.true-raw
+    items_field _ _ _ _ _ _ c.kind_is.ensures c.loop-item-test.true c.fields.ensures _ c.loop-item.invariant.0 c.if-not-fields.true-raw
 
 pub returns-then-left-eq0 : goal.returns-then-left-eq0
 returns-then-left-eq0 c =
-    let f = c.before.before in
-    let k = f.before.before in
-    items_over _ _ _ _ _ _ k.kind_is_lem.ensures f.loop-item-test.true f.fields.ensures c.if-not-fields.false-raw _ k.loop-item.invariant.0 c.if-left-eq0.true
+    items_over _ _ _ _ _ _ c.kind_is.ensures c.loop-item-test.true c.fields.ensures c.if-not-fields.false-raw _ c.loop-item.invariant.0 c.if-left-eq0.true
 
 pub walk_item-walked-requires : goal.walk_item-walked-requires
 walk_item-walked-requires c =
-    let i = c.before.before.before in
-    let turn = i.before.before in
-    turn.requires _ turn.loop-item.invariant.1.1 (found_here _ _ _ i.before.kind_is_lem.ensures i.loop-item-test.true)
+    c.requires _ c.loop-item.invariant.1.1 (found_here _ _ _ c.kind_is.ensures c.loop-item-test.true)
 
 pub returns-in-Refused : goal.returns-in-Refused
 returns-in-Refused c =
-    let l = c.before.before.before.before in
-    let f = l.before.before in
-    let k = f.before.before in
-    items_refused _ _ _ _ _ _ k.kind_is_lem.ensures f.loop-item-test.true f.fields.ensures l.if-not-fields.false-raw
-    c.walk_item-walked.ensures _ k.loop-item.invariant.0 l.if-left-eq0.false c.in-Refused.is
+    items_refused _ _ _ _ _ _ c.kind_is.ensures c.loop-item-test.true c.fields.ensures c.if-not-fields.false-raw
+    c.walk_item-walked.ensures _ c.loop-item.invariant.0 c.if-left-eq0.false c.in-Refused.is
 
 pub loop-item-preserved : goal.loop-item-preserved
 loop-item-preserved c =
-    let l = c.before.before.before.before in
-    let f = l.before.before in
-    let k = f.before.before in
     let is = c.walk_item-walked.ensures in
     let end = c.in-End.is in (
-      items_ends _ _ _ _ _ _ k.kind_is_lem.ensures f.loop-item-test.true f.fields.ensures l.if-not-fields.false-raw
-          is _ _ k.loop-item.invariant.0 l.if-left-eq0.false end,
+      items_ends _ _ _ _ _ _ c.kind_is.ensures c.loop-item-test.true c.fields.ensures c.if-not-fields.false-raw
+          is _ _ c.loop-item.invariant.0 c.if-left-eq0.false end,
       omega (arith, item_onward _ _ _ _ (sym is ∙ end)),
     )
 
 pub returns : goal.returns
-returns c = items_stop _ _ _ _ _ _ c.before.kind_is_lem.ensures _ c.loop-item.invariant.0 c.loop-item-test.false
+returns c = items_stop _ _ _ _ _ _ c.kind_is.ensures _ c.loop-item.invariant.0 c.loop-item-test.false

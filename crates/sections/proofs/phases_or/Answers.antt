@@ -10,9 +10,8 @@ use Rattle.sections.proofs.phases_or.Goals as goal
 pub returns-then-property : goal.returns-then-property
 unfolding phases_or
 returns-then-property c =
-    let p = c.before.before in
-    let row = row_is p.property_of-property.ensures p.claim_at.ensures in
-    (rw (if_taken (ap (λ (p : Property). p.phased) row) c.if-property.true) c.word_at.ensures.0, c.word_at.ensures.1)
+    let row = row_is c.property_of-property.ensures c.claim_at.ensures in
+    (rw (if_taken (ap (λ (c.before.before : Property). c.before.before.phased) row) c.if-property.true) c.word_at.ensures.0, c.word_at.ensures.1)
 
 pub returns : goal.returns
 unfolding phases_or

@@ -19,10 +19,9 @@ returns-in-Refused c =
 
 pub loop-i-preserved : goal.loop-i-preserved
 loop-i-preserved c =
-    let turn = c.before.before.before.before in
-    let walkable = turn.requires.walkable in
+    let walkable = c.requires.walkable in
     let ends = sym c.walk_item-walked.ensures ∙ c.in-End.is in
-    (filled_more _ _ _ _ _ _ turn.loop-i.invariant.0 turn.loop-i-test.true _ ends, item_within _ _ walkable _ _ ends)
+    (filled_more _ _ _ _ _ _ c.loop-i.invariant.0 c.loop-i-test.true _ ends, item_within _ _ walkable _ _ ends)
 
 pub returns : goal.returns
 returns c = filled_done _ _ _ _ _ _ c.loop-i.invariant.0 c.loop-i-test.false

@@ -9,29 +9,24 @@ use Rattle.sections.proofs.property_fields.Goals as goal
 pub returns-then-not-property : goal.returns-then-not-property
 unfolding property_fields
 returns-then-not-property c =
-    let p = c.before.before in
-    let row = row_is p.property_of-property.ensures p.claim_at.ensures in
-    rw (unless_taken (ap (λ (p : Property). p.known) row) c.if-not-property.true)
+    let row = row_is c.property_of-property.ensures c.claim_at.ensures in
+    rw (unless_taken (ap (λ (c.before.before : Property). c.before.before.known) row) c.if-not-property.true)
 
 pub returns-then-not-phases_fit : goal.returns-then-not-phases_fit
 unfolding property_fields
 returns-then-not-phases_fit c =
-    let w = c.before.before in
-    let p = w.before.before.before in
-    let row = row_is p.property_of-property.ensures p.claim_at.ensures in
+    let row = row_is c.property_of-property.ensures c.claim_at.ensures in
     rw (
-      unless_left (ap (λ (p : Property). p.known) row) w.if-not-property.false,
-      unless_taken (phases_are row w.word_at.ensures.0 c.before.phases_fit_lem.ensures) c.if-not-phases_fit.true-raw,
+      unless_left (ap (λ (c.before.before.before.before.before : Property). c.before.before.before.before.before.known) row) c.if-not-property.false,
+      unless_taken (phases_are row c.word_at.ensures.0 c.phases_fit.ensures) c.if-not-phases_fit.true-raw,
     )
 
 pub returns : goal.returns
 unfolding property_fields
 returns c =
-    let w = c.before.before.before in
-    let p = w.before.before.before in
-    let row = row_is p.property_of-property.ensures p.claim_at.ensures in
+    let row = row_is c.property_of-property.ensures c.claim_at.ensures in
     rw (
-      unless_left (ap (λ (p : Property). p.known) row) w.if-not-property.false,
-      unless_left (phases_are row w.word_at.ensures.0 c.before.before.phases_fit_lem.ensures) c.if-not-phases_fit.false-raw,
+      unless_left (ap (λ (c.before.before.before.before.before.before : Property). c.before.before.before.before.before.before.known) row) c.if-not-property.false,
+      unless_left (phases_are row c.word_at.ensures.0 c.phases_fit.ensures) c.if-not-phases_fit.false-raw,
     )
     c.zeros.ensures

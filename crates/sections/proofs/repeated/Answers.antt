@@ -14,13 +14,11 @@ loop-left-init c = (refl, (omega arith))
 
 pub returns-then-same_bytes : goal.returns-then-same_bytes
 returns-then-same_bytes c =
-    let t = c.before.before in
-    sym (t.loop-left.invariant.0 ∙ any_hit _ _ _ t.loop-left-test.true (if_taken c.same_bytes.ensures c.if-same_bytes.true))
+    sym (c.loop-left.invariant.0 ∙ any_hit _ _ _ c.loop-left-test.true (if_taken c.same_bytes.ensures c.if-same_bytes.true))
 
 pub loop-left-preserved : goal.loop-left-preserved
 loop-left-preserved c =
-    let t = c.before.before in
-    (t.loop-left.invariant.0 ∙ any_next _ _ _ t.loop-left-test.true (if_left c.same_bytes.ensures c.if-same_bytes.false), omega arith)
+    (c.loop-left.invariant.0 ∙ any_next _ _ _ c.loop-left-test.true (if_left c.same_bytes.ensures c.if-same_bytes.false), omega arith)
 
 pub returns : goal.returns
 returns c = sym (c.loop-left.invariant.0 ∙ any_none _ _ _ c.loop-left-test.false)

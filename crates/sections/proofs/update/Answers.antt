@@ -5,8 +5,8 @@ use Rattle.sections.proofs.update.Goals as goal
 
 pub returns-then-kind_is : goal.returns-then-kind_is
 unfolding update_of
-returns-then-kind_is c = simp (if_taken c.before.kind_is_lem.ensures c.if-kind_is.true)
+returns-then-kind_is c = simp (if_taken c.kind_is.ensures c.if-kind_is.true)
 
 pub returns : goal.returns
 unfolding update_of
-returns c = simp (if_left c.before.before.kind_is_lem.ensures c.if-kind_is.false) c.walk.ensures
+returns c = simp (if_left c.kind_is.ensures c.if-kind_is.false) c.walk.ensures

@@ -14,19 +14,17 @@ returns-then-not-zeros c = simp (unless_taken c.zeros.ensures c.if-not-zeros.tru
 pub returns-then-not-zeros-2 : goal.returns-then-not-zeros-2
 unfolding variable_fields
 returns-then-not-zeros-2 c =
-    let z = c.before.before.before in
-    simp (unless_left z.zeros.ensures c.if-not-zeros.false-raw, unless_taken c.zeros-2.ensures c.if-not-zeros-2.true-raw)
+    simp (unless_left c.zeros.ensures c.if-not-zeros.false-raw, unless_taken c.zeros-2.ensures c.if-not-zeros-2.true-raw)
 
 pub returns : goal.returns
 unfolding variable_fields
 returns c =
     let low = c.value_at in
     let high = c.value_at-2 in
-    let z = c.before.before.before in
     rw (back w16 low.result low.type_inv, back w16 high.result high.type_inv)
     (simp (
-      unless_left z.zeros.ensures z.if-not-zeros.false-raw,
-      unless_left z.zeros-2.ensures c.if-not-zeros-2.false-raw,
+      unless_left c.zeros.ensures c.if-not-zeros.false-raw,
+      unless_left c.zeros-2.ensures c.if-not-zeros-2.false-raw,
       low.ensures,
       high.ensures,
     ))

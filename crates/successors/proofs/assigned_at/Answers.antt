@@ -31,22 +31,22 @@ pub slice_bounds-number_in-count : goal.slice_bounds-number_in-count
 slice_bounds-number_in-count c = omega (arith, here c.before.before)
 
 pub number_in-extent-requires : goal.number_in-extent-requires
-number_in-extent-requires c = let s = c.before.before.before in lent _ _ s.requires.spans number_sort (s.args.at + 1) _ s.requires.fits
+number_in-extent-requires c = lent _ _ c.requires.spans number_sort (c.args.at + 1) _ c.requires.fits
 
 pub offset_bounds-spans-from : goal.offset_bounds-spans-from
 offset_bounds-spans-from c = omega (arith, here c.before.before.before.before)
 
 pub bounds-spans-from : goal.bounds-spans-from
-bounds-spans-from c = let s = c.before.before.before.before in omega (arith, entry _ _ s.requires.spans number_sort (s.args.at + 1) _ s.requires.fits)
+bounds-spans-from c = omega (arith, entry _ _ c.requires.spans number_sort (c.args.at + 1) _ c.requires.fits)
 
 pub overflow_cast-result : goal.overflow_cast-result
-overflow_cast-result c = let s = c.before.before.before.before.before in omega (arith, here s, end s)
+overflow_cast-result c = omega (arith, here c.before.before.before.before.before, end c.before.before.before.before.before)
 
 pub overflow_add-result : goal.overflow_add-result
-overflow_add-result c = let s = c.before.before.before.before.before in omega (arith, here s, end s)
+overflow_add-result c = omega (arith, here c.before.before.before.before.before, end c.before.before.before.before.before)
 
 pub returns : goal.returns
 unfolding assigned_at
-returns c = let s = c.before.before.before.before.before in
-    rw (c.byte_at-variable.ensures, c.number_in-extent.ensures, take_rest (8 * (s.args.at + 1)) s.args.file.now)
-    (rw (behind_is _ _ s.requires.spans number_sort (s.args.at + 1) _ s.requires.fits))
+returns c = 
+    rw (c.byte_at-variable.ensures, c.number_in-extent.ensures, take_rest (8 * (c.args.at + 1)) c.args.file.now)
+    (rw (behind_is _ _ c.requires.spans number_sort (c.args.at + 1) _ c.requires.fits))

@@ -26,20 +26,20 @@ pub offset_bounds-spans-from : goal.offset_bounds-spans-from
 offset_bounds-spans-from c = omega (arith, here c.before.before.before.before)
 
 pub bounds-spans-from : goal.bounds-spans-from
-bounds-spans-from c = let s = c.before.before.before.before in entry _ _ s.requires.spans truth_sort (s.args.at + 1) _ s.requires.fits.guard
+bounds-spans-from c = entry _ _ c.requires.spans truth_sort (c.args.at + 1) _ c.requires.fits.guard
 
 pub overflow_cast-spans : goal.overflow_cast-spans
-overflow_cast-spans c = let s = c.before.before.before.before.before in omega (arith, here s, end s)
+overflow_cast-spans c = omega (arith, here c.before.before.before.before.before, end c.before.before.before.before.before)
 
 pub overflow_add-from-2 : goal.overflow_add-from-2
-overflow_add-from-2 c = let s = c.before.before.before.before.before in omega (arith, here s, end s)
+overflow_add-from-2 c = omega (arith, here c.before.before.before.before.before, end c.before.before.before.before.before)
 
 pub reach-m-requires : goal.reach-m-requires
-reach-m-requires c = let s = c.before.before.before.before.before in
-    record { spans = s.requires.spans; fits = rw (behind_is _ _ s.requires.spans truth_sort (s.args.at + 1) _ s.requires.fits.guard) s.requires.fits.updates }
+reach-m-requires c = 
+    record { spans = c.requires.spans; fits = rw (behind_is _ _ c.requires.spans truth_sort (c.args.at + 1) _ c.requires.fits.guard) c.requires.fits.updates }
 
 pub returns : goal.returns
-returns c = let s = c.before.before.before.before.before.before.before in
+returns c = 
     move_on _ _ _ _ c.seen_in-guard.ensures
     (sym c.never.ensures ∙ c.if-never.false)
-    (rw (behind_is _ _ s.requires.spans truth_sort (s.args.at + 1) _ s.requires.fits.guard) at c.reach-m.ensures)
+    (rw (behind_is _ _ c.requires.spans truth_sort (c.args.at + 1) _ c.requires.fits.guard) at c.reach-m.ensures)

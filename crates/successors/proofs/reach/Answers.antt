@@ -30,12 +30,12 @@ target_at-t-requires c =
     record { fits = (fits_more _ _ _ (left_some c) (named c) c.loop-left.invariant.fit).0; spans = c.requires.spans }
 
 pub toward-m-requires : goal.toward-m-requires
-toward-m-requires c = let l = c.loop-left.invariant in let e = c.before in
-    record { variable = left_variable _ _ _ _ l _ (left_some e) (named e) c.target_at-t.ensures.is; bounded = c.target_at-t.ensures.bounded }
+toward-m-requires c = let l = c.loop-left.invariant in 
+    record { variable = left_variable _ _ _ _ l _ (left_some c.before) (named c.before) c.target_at-t.ensures.is; bounded = c.target_at-t.ensures.bounded }
 
 pub loop-left-preserved : goal.loop-left-preserved
-loop-left-preserved c = let e = c.before.before in
-    left_more _ _ _ _ c.loop-left.invariant _ (left_some e) (named e) c.target_at-t.ensures.is c.toward-m.ensures
+loop-left-preserved c = 
+    left_more _ _ _ _ c.loop-left.invariant _ (left_some c.before.before) (named c.before.before) c.target_at-t.ensures.is c.toward-m.ensures
 
 pub returns : goal.returns
 returns c = left_end _ _ _ _ c.loop-left.invariant (omega arith)

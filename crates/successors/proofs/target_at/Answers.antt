@@ -7,14 +7,14 @@ use Rattle.successors.proofs.Steps.Successor.{target_picked, target_assigned, as
 use Rattle.successors.proofs.target_at.Goals as goal
 
 pub picked_at-requires : goal.picked_at-requires
-picked_at-requires c = omega (arith, (kind_is_lem _ _ _ (if_taken c.before.kind_is_lem.ensures c.if-kind_is.true)).0)
+picked_at-requires c = omega (arith, (kind_is_lem _ _ _ (if_taken c.kind_is.ensures c.if-kind_is.true)).0)
 
 pub returns-then-kind_is : goal.returns-then-kind_is
-returns-then-kind_is c = record { is = c.picked_at.ensures.is ∙ sym (target_picked _ _ _ (if_taken c.before.before.kind_is_lem.ensures c.if-kind_is.true)); bounded = c.picked_at.ensures.bounded }
+returns-then-kind_is c = record { is = c.picked_at.ensures.is ∙ sym (target_picked _ _ _ (if_taken c.kind_is.ensures c.if-kind_is.true)); bounded = c.picked_at.ensures.bounded }
 
 pub assigned_at-requires : goal.assigned_at-requires
-assigned_at-requires c = record { fits = c.requires.fits.value (if_left c.before.kind_is_lem.ensures c.if-kind_is.false); spans = c.requires.spans }
+assigned_at-requires c = record { fits = c.requires.fits.value (if_left c.kind_is.ensures c.if-kind_is.false); spans = c.requires.spans }
 
 pub returns : goal.returns
 returns c =
-    record { is = c.assigned_at.ensures ∙ sym (target_assigned _ _ _ (if_left c.before.before.kind_is_lem.ensures c.if-kind_is.false)); bounded = rw c.assigned_at.ensures (assigned_bounded _ _ _) }
+    record { is = c.assigned_at.ensures ∙ sym (target_assigned _ _ _ (if_left c.kind_is.ensures c.if-kind_is.false)); bounded = rw c.assigned_at.ensures (assigned_bounded _ _ _) }

@@ -22,13 +22,12 @@ overflow_add-count c = omega (arith, choosing_few _ _ _ c.loop-i.invariant)
 
 pub loop-i-preserved : goal.loop-i-preserved
 loop-i-preserved c =
-    let s = c.before.before.before in
     let k = c.loop-i.invariant in
     let l = c.loop-i-test.true in
     ⊎_elim
-    (λ w. rw (w.1, w.2) (choosing_more _ _ _ k l s.requires.most w.0.taken))
-    (λ w. rw (w.1, w.2) (choosing_skip _ _ _ k l s.requires.most w.0.left))
-    c.if-marks-i.branch
+    (λ w. rw (w.1, w.2) (choosing_more _ _ _ k l c.requires.most w.0.taken))
+    (λ w. rw (w.1, w.2) (choosing_skip _ _ _ k l c.requires.most w.0.left))
+    c.if-marks-i.branch-raw
 
 pub returns : goal.returns
 returns c = choosing_end _ _ _ c.loop-i.invariant c.loop-i-test.false

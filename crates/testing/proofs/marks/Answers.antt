@@ -32,7 +32,7 @@ loop-e-preserved c =
     ⊎_elim
     (λ w. rw w.1 (mark_hit _ _ r _ _ _ k l is cs w.0.taken))
     (λ w. rw w.1 (mark_miss _ _ r _ _ _ k l is cs w.0.left))
-    c.if-carries.branch
+    c.if-carries.branch-raw
 
 pub returns : goal.returns
 unfolding marks_of

@@ -32,93 +32,75 @@ choose-all-requires-in-Entry c = record { most = few c.before.before.before.befo
 
 pub q_at-requires : goal.q_at-requires
 q_at-requires c =
-    let s = c.before.before.before.before.before.before in
-    record { loaded = s.requires.loaded; there = parts s c.in-Cover.is }
+    record { loaded = c.requires.loaded; there = parts c.before.before.before.before.before.before c.in-Cover.is }
 
 pub one-q-requires : goal.one-q-requires
 one-q-requires c =
-    let s = c.before.before.before.before.before.before.before in
-    rw c.q_at_lem.ensures ((keeps _ _ s.requires.loaded).q _ (parts s c.in-Cover.is)).small
+    rw c.q_at.ensures ((keeps _ _ c.requires.loaded).q _ (parts c.before.before.before.before.before.before.before c.in-Cover.is)).small
 
 pub offset_bounds-assertions-n : goal.offset_bounds-assertions-n
 offset_bounds-assertions-n c =
-    let s = c.before.before.before.before.before.before.before.before in
-    omega (arith, parts s c.in-Cover.is, few s)
+    omega (arith, parts c.before.before.before.before.before.before.before.before c.in-Cover.is, few c.before.before.before.before.before.before.before.before)
 
 pub bounds-assertions-n : goal.bounds-assertions-n
 bounds-assertions-n c =
-    let s = c.before.before.before.before.before.before.before.before in
-    omega (arith, parts s c.in-Cover.is, few s)
+    omega (arith, parts c.before.before.before.before.before.before.before.before c.in-Cover.is, few c.before.before.before.before.before.before.before.before)
 
 pub offset_bounds-steps-t : goal.offset_bounds-steps-t
 offset_bounds-steps-t c =
-    let s = c.before.before.before.before.before.before in
-    omega (arith, (parts s c.in-Range.is).1, moves s)
+    omega (arith, (parts c.before.before.before.before.before.before c.in-Range.is).1, moves c.before.before.before.before.before.before)
 
 pub bounds-steps-t : goal.bounds-steps-t
 bounds-steps-t c =
-    let s = c.before.before.before.before.before.before in
-    omega (arith, (parts s c.in-Range.is).1, moves s)
+    omega (arith, (parts c.before.before.before.before.before.before c.in-Range.is).1, moves c.before.before.before.before.before.before)
 
 pub offset_bounds-assertions-n-in-Range : goal.offset_bounds-assertions-n-in-Range
 offset_bounds-assertions-n-in-Range c =
-    let s = c.before.before.before.before.before.before in
-    omega (arith, (parts s c.in-Range.is).0, few s)
+    omega (arith, (parts c.before.before.before.before.before.before c.in-Range.is).0, few c.before.before.before.before.before.before)
 
 pub bounds-assertions-n-in-Range : goal.bounds-assertions-n-in-Range
 bounds-assertions-n-in-Range c =
-    let s = c.before.before.before.before.before.before in
-    omega (arith, (parts s c.in-Range.is).0, few s)
+    omega (arith, (parts c.before.before.before.before.before.before c.in-Range.is).0, few c.before.before.before.before.before.before)
 
 pub offset_bounds-steps-t-in-Step : goal.offset_bounds-steps-t-in-Step
 offset_bounds-steps-t-in-Step c =
-    let s = c.before.before.before.before.before.before in
-    omega (arith, (parts s c.in-Step.is).1, moves s)
+    omega (arith, (parts c.before.before.before.before.before.before c.in-Step.is).1, moves c.before.before.before.before.before.before)
 
 pub bounds-steps-t-in-Step : goal.bounds-steps-t-in-Step
 bounds-steps-t-in-Step c =
-    let s = c.before.before.before.before.before.before in
-    omega (arith, (parts s c.in-Step.is).1, moves s)
+    omega (arith, (parts c.before.before.before.before.before.before c.in-Step.is).1, moves c.before.before.before.before.before.before)
 
 pub marks-marks-requires : goal.marks-marks-requires
 marks-marks-requires c =
-    let s = c.before.before.before.before.before.before.before in
-    record { loaded = s.requires.loaded; there = (parts s c.in-Step.is).0 }
+    record { loaded = c.requires.loaded; there = (parts c.before.before.before.before.before.before.before c.in-Step.is).0 }
 
 pub choose-targets-requires : goal.choose-targets-requires
 choose-targets-requires c =
-    let s = c.before.before.before.before.before.before.before.before in
-    record { most = few s; small = small s }
+    record { most = few c.before.before.before.before.before.before.before.before; small = small c.before.before.before.before.before.before.before.before }
 
 pub offset_bounds-assertions-n-in-Step : goal.offset_bounds-assertions-n-in-Step
 offset_bounds-assertions-n-in-Step c =
-    let s = c.before.before.before.before.before.before.before.before.before in
-    omega (arith, (parts s c.in-Step.is).0, few s)
+    omega (arith, (parts c.before.before.before.before.before.before.before.before.before c.in-Step.is).0, few c.before.before.before.before.before.before.before.before.before)
 
 pub bounds-assertions-n-in-Step : goal.bounds-assertions-n-in-Step
 bounds-assertions-n-in-Step c =
-    let s = c.before.before.before.before.before.before.before.before.before in
-    omega (arith, (parts s c.in-Step.is).0, few s)
+    omega (arith, (parts c.before.before.before.before.before.before.before.before.before c.in-Step.is).0, few c.before.before.before.before.before.before.before.before.before)
 
 pub offset_bounds-steps-t-in-Enabling : goal.offset_bounds-steps-t-in-Enabling
 offset_bounds-steps-t-in-Enabling c =
-    let s = c.before.before.before.before.before.before in
-    omega (arith, (parts s c.in-Enabling.is).1, moves s)
+    omega (arith, (parts c.before.before.before.before.before.before c.in-Enabling.is).1, moves c.before.before.before.before.before.before)
 
 pub bounds-steps-t-in-Enabling : goal.bounds-steps-t-in-Enabling
 bounds-steps-t-in-Enabling c =
-    let s = c.before.before.before.before.before.before in
-    omega (arith, (parts s c.in-Enabling.is).1, moves s)
+    omega (arith, (parts c.before.before.before.before.before.before c.in-Enabling.is).1, moves c.before.before.before.before.before.before)
 
 pub offset_bounds-assertions-n-in-Enabling : goal.offset_bounds-assertions-n-in-Enabling
 offset_bounds-assertions-n-in-Enabling c =
-    let s = c.before.before.before.before.before.before in
-    omega (arith, (parts s c.in-Enabling.is).0, few s)
+    omega (arith, (parts c.before.before.before.before.before.before c.in-Enabling.is).0, few c.before.before.before.before.before.before)
 
 pub bounds-assertions-n-in-Enabling : goal.bounds-assertions-n-in-Enabling
 bounds-assertions-n-in-Enabling c =
-    let s = c.before.before.before.before.before.before in
-    omega (arith, (parts s c.in-Enabling.is).0, few s)
+    omega (arith, (parts c.before.before.before.before.before.before c.in-Enabling.is).0, few c.before.before.before.before.before.before)
 
 pub returns-in-Start : goal.returns-in-Start
 returns-in-Start c =
@@ -129,13 +111,13 @@ pub returns-in-Entry : goal.returns-in-Entry
 returns-in-Entry c =
     c.prepared-in-Entry.ensures
     ∙ test_entry _ _ c.requires.loaded c.in-Entry.is
-    c.choose-all-in-Entry.ensures c.before.claimed_at_lem.ensures
+    c.choose-all-in-Entry.ensures c.claimed_at.ensures
 
 pub returns-in-Cover : goal.returns-in-Cover
 returns-in-Cover c =
     c.prepared-in-Cover.ensures
     ∙ test_cover _ _ c.requires.loaded
-    c.in-Cover.is c.one-q.ensures c.before.before.q_at_lem.ensures
+    c.in-Cover.is c.one-q.ensures c.q_at.ensures
 
 pub returns-in-Range : goal.returns-in-Range
 returns-in-Range c =
@@ -145,10 +127,9 @@ returns-in-Range c =
 
 pub returns-in-Step : goal.returns-in-Step
 returns-in-Step c =
-    let s = c.before.before.before.before.before.before.before.before.before.before in
     let e = c.in-Step.is in
     c.prepared-in-Step.ensures
-    ∙ test_step _ _ s.requires.loaded e (parts s e).1 c.before.before.before.double_of_lem.ensures c.marks-marks.ensures
+    ∙ test_step _ _ c.requires.loaded e (parts c.before.before.before.before.before.before.before.before.before.before e).1 c.double_of.ensures c.marks-marks.ensures
     c.choose-targets.ensures
 
 pub returns-in-Enabling : goal.returns-in-Enabling

@@ -54,7 +54,7 @@ broke c below =
     passed_broke (ready c.before.before) below w.1.ensures w.2.ensures w.4.inv x.0.taken
     (passes_concluded _ _ _ _ _ x.2.ensures x.3.taken x.4.ensures ∙ not-true _ x.5.taken))
     w.5.came))
-    c.conditions-test.branch
+    c.conditions-test.branch-raw
 
 tests_fit : (c : Left-conditions)
     → c.conditions.number < c.total-total.result
@@ -68,8 +68,7 @@ conditions-init c = record { passed = omega arith; held = λ k l. absurd (omega 
 
 pub condition_at-condition-requires : goal.condition_at-condition-requires
 condition_at-condition-requires c =
-    let s = c.before.before in
-    record { loaded = (start s).requires.loaded; below = omega (arith, s.total-total.ensures, c.conditions-test.true) }
+    record { loaded = (start c.before.before).requires.loaded; below = omega (arith, c.total-total.ensures, c.conditions-test.true) }
 
 pub test_of-test-requires : goal.test_of-test-requires
 test_of-test-requires c = test_asks (ready c.before.before.before) c.conditions-test.true c.condition_at-condition.ensures
@@ -83,16 +82,15 @@ advance-next-requires c =
 
 pub holds-requires : goal.holds-requires
 holds-requires c =
-    let d = c.before.before.before.before in
-    let asks = passed_asks (ready (looked_up d)) d.conditions-test.true d.condition_at-condition.ensures d.test_of-test.ensures
+    let asks = passed_asks (ready (looked_up c.before.before.before.before)) c.conditions-test.true c.condition_at-condition.ensures c.test_of-test.ensures
     c.states.invariant c.states-test.true in
-    record { fits = asks.1.premise _ asks.0; spans = (start (looked_up d)).requires.spans }
+    record { fits = asks.1.premise _ asks.0; spans = (start (looked_up c.before.before.before.before)).requires.spans }
 
 pub concludes-requires : goal.concludes-requires
 concludes-requires c =
-    let d = c.before.before.before.before.before.before in (
-      (start (looked_up d)).requires.spans,
-      passed_asks (ready (looked_up d)) d.conditions-test.true d.condition_at-condition.ensures d.test_of-test.ensures
+    (
+      (start (looked_up c.before.before.before.before.before.before)).requires.spans,
+      passed_asks (ready (looked_up c.before.before.before.before.before.before)) c.conditions-test.true c.condition_at-condition.ensures c.test_of-test.ensures
           c.states.invariant c.states-test.true,
     )
 
@@ -103,29 +101,26 @@ overflow_add-n c = omega (arith, c.states-test.true, states_small (ready (looked
 moved : (c : Joined-holds)
     → passed_in c.before.before.before.before.before.before c.advance-next.result (c.states.n + 1)
 moved c =
-    let d = c.before.before.before.before.before.before in
     let premise = c.holds.ensures in
-    passed_more (ready (looked_up d)) d.conditions-test.true d.condition_at-condition.ensures d.test_of-test.ensures
+    passed_more (ready (looked_up c.before.before.before.before.before.before)) c.conditions-test.true c.condition_at-condition.ensures c.test_of-test.ensures
     c.states.invariant c.states-test.true
     (⊎_elim {C = passes_of _ _ _ _ _ ≡ true} (λ w. passes_concluded _ _ _ _ _ premise w.0.taken w.1.ensures ∙ not-false _ w.2.left)
     (λ w. passes_vacuous _ _ _ _ _ premise w.left)
-    c.if-holds.branch)
+    c.if-holds.branch-raw)
     c.advance-next.ensures
 
 pub onward-to-requires : goal.onward-to-requires
 onward-to-requires c =
-    let d = c.before.before.before.before.before.before.before in
-    let h = ready (looked_up d) in
-    let asks = skip_asks h d.conditions-test.true d.condition_at-condition.ensures d.test_of-test.ensures in
-    record { spans = (start (looked_up d)).requires.spans; fits = asks.0; ranges = asks.1.0; most = asks.1.1; asked = omega (arith, c.if-ask-n.true, c.states-test.true, states_small h) }
+    let h = ready (looked_up c.before.before.before.before.before.before.before) in
+    let asks = skip_asks h c.conditions-test.true c.condition_at-condition.ensures c.test_of-test.ensures in
+    record { spans = (start (looked_up c.before.before.before.before.before.before.before)).requires.spans; fits = asks.0; ranges = asks.1.0; most = asks.1.1; asked = omega (arith, c.if-ask-n.true, c.states-test.true, states_small h) }
 
 -- or more, by boxes
 further : (c : After-onward-to)
     → passed_in c.before.before.before.before.before.before.before.before c.onward-to.result.state c.onward-to.result.number
     × (c.states.n + 1 ≤ c.onward-to.result.number)
 further c =
-    let d = c.before.before.before.before.before.before.before.before in
-    passed_onward (ready (looked_up d)) d.conditions-test.true d.condition_at-condition.ensures d.test_of-test.ensures
+    passed_onward (ready (looked_up c.before.before.before.before.before.before.before.before)) c.conditions-test.true c.condition_at-condition.ensures c.test_of-test.ensures
     (moved c.before.before) _ _ c.onward-to.ensures
 
 pub states-smaller-then-ask-n : goal.states-smaller-then-ask-n
@@ -142,8 +137,7 @@ states-preserved c = moved (c.before)
 
 pub overflow_add-number : goal.overflow_add-number
 overflow_add-number c =
-    let d = c.before.before.before.before in
-    omega (arith, d.conditions-test.true, total_small (ready (looked_up d)))
+    omega (arith, c.conditions-test.true, total_small (ready (looked_up c.before.before.before.before)))
 
 pub conditions-smaller : goal.conditions-smaller
 conditions-smaller c = omega (arith, c.conditions-test.true)
@@ -156,8 +150,7 @@ conditions-preserved c =
 
 pub condition_at-broken-requires : goal.condition_at-broken-requires
 condition_at-broken-requires c =
-    let s = c.before.before.before in
-    record { loaded = (start s).requires.loaded; below = omega (arith, s.total-total.ensures, c.if-number-total.true) }
+    record { loaded = (start c.before.before.before).requires.loaded; below = omega (arith, c.total-total.ensures, c.if-number-total.true) }
 
 pub overflow_cast-number : goal.overflow_cast-number
 overflow_cast-number c = record { fits = omega (arith, total_small (ready c.before.before.before.before)) }

@@ -19,9 +19,8 @@ answers : (c : After-passes)
     → let s = (looked_up c.before.before.before).before.before in
     single_judged s.args.file.now s.args.diagram s.args.condition s.args.state ≡ cond c.passes.result Single.Holds Single.Fails
 answers c =
-    let d = c.before.before.before in
-    single_answers (ready (looked_up d)) d.if-total-condition.false d.condition_at.ensures
-    c.test_of-test.ensures d.if-diagram-state.false c.state_of-s.ensures c.passes.ensures
+    single_answers (ready (looked_up c.before.before.before)) c.if-total-condition.false c.condition_at.ensures
+    c.test_of-test.ensures c.if-diagram-state.false c.state_of-s.ensures c.passes.ensures
 
 pub returns-then-total-condition : goal.returns-then-total-condition
 returns-then-total-condition c = sym (tested_eleven _ _ _ _ (omega (arith, c.total.ensures, c.if-total-condition.true)))

@@ -25,29 +25,26 @@ unfolding divide_in
 returns-then-rises c =
     let low = c.divide in
     let high = c.divide-then-rises in
-    let r = c.before.before.before.before in
-    let f = r.ranges in
+    let f = c.ranges in
     rw (
       c.spanning.ensures,
       back w64 low.result low.type_inv,
       back w64 high.result high.type_inv,
       low.ensures,
       high.ensures,
-      low_back r,
-      high_back r,
+      low_back c.before.before.before.before,
+      high_back c.before.before.before.before,
       to_z-of_z f.d,
-      ← rise r,
+      ← rise c.before.before.before.before,
       c.if-rises.true,
     )
 
 pub overflow_sub-d : goal.overflow_sub-d
 overflow_sub-d c =
-    let s = c.before.before.before.before.before in
-    rw (to_z-of_z s.ranges.d) (less_fits s.args.d s.requires s.ranges.d)
+    rw (to_z-of_z c.ranges.d) (less_fits c.args.d c.requires c.ranges.d)
 
 pub returns : goal.returns
 unfolding divide_in
 returns c =
-    let r = c.before.before in
-    let f = r.ranges in
-    rw (c.spanning-2.ensures, to_z-of_z (overflow_sub-d c.before), to_z-of_z f.d, ← rise r, c.if-rises.false)
+    let f = c.ranges in
+    rw (c.spanning-2.ensures, to_z-of_z (overflow_sub-d c.before), to_z-of_z f.d, ← rise c.before.before, c.if-rises.false)

@@ -20,12 +20,12 @@ filled c = let e : c.loop-at.at - 1 + 1 ≡ c.loop-at.at = omega arith in rw e c
 first_passed : (c : Joined-operands-gt0)
     → BehindOperand c.loop-at.spans c.signature_at-operands.result.operands 0
     (c.loop-at.at - 1 + 1) c.if-operands-gt0.end
-first_passed c = ⊎_map (λ w. (w.0.taken, w.3 ∙ w.2.ensures)) (λ w. (w.0.left, w.1)) c.if-operands-gt0.branch
+first_passed c = ⊎_map (λ w. (w.0.taken, w.3 ∙ w.2.ensures)) (λ w. (w.0.left, w.1)) c.if-operands-gt0.branch-raw
 
 second_passed : (c : Joined-operands-gt1)
     → BehindOperand c.loop-at.spans c.signature_at-operands.result.operands 1
     c.if-operands-gt0.end c.if-operands-gt1.end
-second_passed c = ⊎_map (λ w. (w.0.taken, w.3 ∙ w.2.ensures)) (λ w. (w.0.left, w.1)) c.if-operands-gt1.branch
+second_passed c = ⊎_map (λ w. (w.0.taken, w.3 ∙ w.2.ensures)) (λ w. (w.0.left, w.1)) c.if-operands-gt1.branch-raw
 
 pub end_of-end-requires-then-operands-gt1 : goal.end_of-end-requires-then-operands-gt1
 end_of-end-requires-then-operands-gt1 c = omega (arith, mid_within _ (filled c.before.before.before.before) (first_passed c.before.before))

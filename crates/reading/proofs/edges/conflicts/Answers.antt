@@ -12,17 +12,13 @@ loop-left-init c = (refl, omega arith)
 
 pub returns-then-conflict : goal.returns-then-conflict
 returns-then-conflict c =
-    let edge = c.before.before in
-    let loop = edge.before.before in
-    let tested = c.conflict.ensures ∙ ap (λ (x : Edge). conflict_of x loop.args.edge) edge.edge_at.ensures in
-    sym (loop.loop-left.invariant.0 ∙ any_hit _ _ _ edge.loop-left-test.true (sym tested ∙ c.if-conflict.true))
+    let tested = c.conflict.ensures ∙ ap (λ (x : Edge). conflict_of x c.args.edge) c.edge_at.ensures in
+    sym (c.loop-left.invariant.0 ∙ any_hit _ _ _ c.loop-left-test.true (sym tested ∙ c.if-conflict.true))
 
 pub loop-left-preserved : goal.loop-left-preserved
 loop-left-preserved c =
-    let edge = c.before.before in
-    let loop = edge.before.before in
-    let tested = c.conflict.ensures ∙ ap (λ (x : Edge). conflict_of x loop.args.edge) edge.edge_at.ensures in
-    (loop.loop-left.invariant.0 ∙ any_next _ _ _ edge.loop-left-test.true (sym tested ∙ c.if-conflict.false), omega arith)
+    let tested = c.conflict.ensures ∙ ap (λ (x : Edge). conflict_of x c.args.edge) c.edge_at.ensures in
+    (c.loop-left.invariant.0 ∙ any_next _ _ _ c.loop-left-test.true (sym tested ∙ c.if-conflict.false), omega arith)
 
 pub returns : goal.returns
 returns c = sym (c.loop-left.invariant.0 ∙ any_none _ _ _ c.loop-left-test.false)

@@ -19,35 +19,27 @@ returns-then-conflicts c = sym (double_conflict _ _ _ c.edge_at-edge.ensures c.c
 
 pub returns-then-not-edge : goal.returns-then-not-edge
 returns-then-not-edge c =
-    let conflicts = c.before.before.before in
-    sym (double_single _ _ _ conflicts.edge_at-edge.ensures conflicts.conflicts.ensures c.if-conflicts.false c.if-not-edge.true)
+    sym (double_single _ _ _ c.edge_at-edge.ensures c.conflicts.ensures c.if-conflicts.false c.if-not-edge.true)
 
 pub claim_at-requires : goal.claim_at-requires
 claim_at-requires c = c.requires.outline.property_here
 
 pub returns-then-not-falls : goal.returns-then-not-falls
 returns-then-not-falls c =
-    let falls = c.before in
-    let double = falls.before.before.before in
-    let conflicts = double.before.before.before in
-    let is = conflicts.edge_at-edge.ensures in
-    let apart = double.if-conflicts.false in
-    let row = falls.property_of.ensures ∙ ap property_of falls.claim_at.ensures in
-    sym (double_rises _ _ _ is conflicts.conflicts.ensures apart double.if-not-edge.false row falls.falls.ensures c.if-not-falls.true-raw)
+    let is = c.edge_at-edge.ensures in
+    let apart = c.if-conflicts.false in
+    let row = c.property_of.ensures ∙ ap property_of c.claim_at.ensures in
+    sym (double_rises _ _ _ is c.conflicts.ensures apart c.if-not-edge.false row c.falls.ensures c.if-not-falls.true-raw)
 
 pub just-requires : goal.just-requires
 just-requires c =
-    let edge = c.before.before.before.before.before.before.before.before in
-    let fits = edge.requires in
-    record { outline = fits.outline; found = fits.found; there = rw edge.edge_at-edge.ensures fits.named }
+    let fits = c.requires in
+    record { outline = fits.outline; found = fits.found; there = rw c.edge_at-edge.ensures fits.named }
 
 pub returns : goal.returns
 returns c =
-    let falls = c.before.before in
-    let double = falls.before.before.before in
-    let conflicts = double.before.before.before in
-    let is = conflicts.edge_at-edge.ensures in
-    let apart = double.if-conflicts.false in
-    let row = falls.property_of.ensures ∙ ap property_of falls.claim_at.ensures in
-    let rule = double_just _ _ _ is conflicts.conflicts.ensures apart double.if-not-edge.false row falls.falls.ensures c.if-not-falls.false-raw in
+    let is = c.edge_at-edge.ensures in
+    let apart = c.if-conflicts.false in
+    let row = c.property_of.ensures ∙ ap property_of c.claim_at.ensures in
+    let rule = double_just _ _ _ is c.conflicts.ensures apart c.if-not-edge.false row c.falls.ensures c.if-not-falls.false-raw in
     c.just.ensures ∙ sym rule

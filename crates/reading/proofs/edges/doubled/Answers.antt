@@ -13,17 +13,13 @@ loop-left-init c = (refl, omega (arith, c.requires.edges_here))
 pub returns-then-double_from : goal.returns-then-double_from
 unfolding doubled_of
 returns-then-double_from c =
-    let edge = c.before.before in
-    let loop = edge.before.before in
-    let tested = c.before.double_from_lem.ensures ∙ ap (double_from loop.args.node) edge.edge_at.ensures in
-    sym (loop.loop-left.invariant.0 ∙ any_hit _ _ _ edge.loop-left-test.true (sym tested ∙ c.if-double_from.true))
+    let tested = c.double_from.ensures ∙ ap (double_from c.args.node) c.edge_at.ensures in
+    sym (c.loop-left.invariant.0 ∙ any_hit _ _ _ c.loop-left-test.true (sym tested ∙ c.if-double_from.true))
 
 pub loop-left-preserved : goal.loop-left-preserved
 loop-left-preserved c =
-    let edge = c.before.before in
-    let loop = edge.before.before in
-    let tested = c.before.double_from_lem.ensures ∙ ap (double_from loop.args.node) edge.edge_at.ensures in
-    (loop.loop-left.invariant.0 ∙ any_next _ _ _ edge.loop-left-test.true (sym tested ∙ c.if-double_from.false), omega arith)
+    let tested = c.double_from.ensures ∙ ap (double_from c.args.node) c.edge_at.ensures in
+    (c.loop-left.invariant.0 ∙ any_next _ _ _ c.loop-left-test.true (sym tested ∙ c.if-double_from.false), omega arith)
 
 pub returns : goal.returns
 unfolding doubled_of

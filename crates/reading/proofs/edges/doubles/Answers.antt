@@ -28,14 +28,12 @@ doubled-requires c = c.requires
 
 pub returns-then-not-doubled : goal.returns-then-not-doubled
 returns-then-not-doubled c =
-    let test = c.before.before in
-    sym (test.loop-left.invariant.0 ∙ refuse_fails _ _ _ _ test.loop-left-test.true (sym c.doubled.ensures ∙ not-true _ c.if-not-doubled.true-raw))
+    sym (c.loop-left.invariant.0 ∙ refuse_fails _ _ _ _ c.loop-left-test.true (sym c.doubled.ensures ∙ not-true _ c.if-not-doubled.true-raw))
 
 pub loop-left-preserved : goal.loop-left-preserved
 loop-left-preserved c =
-    let test = c.before.before in
     let has = sym c.doubled.ensures ∙ not-false _ c.if-not-doubled.false-raw in
-    (test.loop-left.invariant.0 ∙ refuse_next _ _ _ _ test.loop-left-test.true has, omega arith)
+    (c.loop-left.invariant.0 ∙ refuse_next _ _ _ _ c.loop-left-test.true has, omega arith)
 
 pub returns : goal.returns
 returns c = sym (c.loop-left.invariant.0 ∙ refuse_none _ _ _ _ c.loop-left-test.false)

@@ -12,21 +12,16 @@ edge_at-edge-requires c = c.requires.here
 
 pub returns-then-not-leads : goal.returns-then-not-leads
 returns-then-not-leads c =
-    let edge = c.before.before in
-    let row = edge.property_of-property.ensures ∙ ap property_of edge.claim_at.ensures in
-    sym (rule_leaves _ _ _ edge.edge_at-edge.ensures row c.leads.ensures c.if-not-leads.true-raw)
+    let row = c.property_of-property.ensures ∙ ap property_of c.claim_at.ensures in
+    sym (rule_leaves _ _ _ c.edge_at-edge.ensures row c.leads.ensures c.if-not-leads.true-raw)
 
 pub returns-then-property : goal.returns-then-property
 returns-then-property c =
-    let leads = c.before.before.before in
-    let edge = leads.before in
-    let row = edge.property_of-property.ensures ∙ ap property_of edge.claim_at.ensures in
-    let rule = rule_doubles _ _ _ edge.edge_at-edge.ensures row leads.leads.ensures c.if-not-leads.false-raw c.if-property.true in
-    c.double_rule_lem.ensures ∙ sym rule
+    let row = c.property_of-property.ensures ∙ ap property_of c.claim_at.ensures in
+    let rule = rule_doubles _ _ _ c.edge_at-edge.ensures row c.leads.ensures c.if-not-leads.false-raw c.if-property.true in
+    c.double_rule.ensures ∙ sym rule
 
 pub returns : goal.returns
 returns c =
-    let leads = c.before.before.before in
-    let edge = leads.before in
-    let row = edge.property_of-property.ensures ∙ ap property_of edge.claim_at.ensures in
-    sym (rule_single _ _ _ edge.edge_at-edge.ensures row leads.leads.ensures c.if-not-leads.false-raw c.if-property.false)
+    let row = c.property_of-property.ensures ∙ ap property_of c.claim_at.ensures in
+    sym (rule_single _ _ _ c.edge_at-edge.ensures row c.leads.ensures c.if-not-leads.false-raw c.if-property.false)

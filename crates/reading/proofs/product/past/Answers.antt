@@ -8,15 +8,15 @@ use Rattle.reading.proofs.product.past.Goals as goal
 
 pub returns-then-kind_is : goal.returns-then-kind_is
 unfolding past_record
-returns-then-kind_is c = simp (if_taken c.before.kind_is_lem.ensures c.if-kind_is.true)
+returns-then-kind_is c = simp (if_taken c.kind_is.ensures c.if-kind_is.true)
 
 pub overflow_mul-result : goal.overflow_mul-result
 overflow_mul-result c = record { fits = product_fits _ _ (omega (arith, c.requires.1)) c.range_size.ensures.1 }
 
 pub returns-then-kind_is-2 : goal.returns-then-kind_is-2
 unfolding past_record
-returns-then-kind_is-2 c = simp (if_left c.before.before.before.before.before.kind_is_lem.ensures c.if-kind_is.false, if_taken c.kind_is-2.ensures c.if-kind_is-2.true, sym c.range_size.ensures.0)
+returns-then-kind_is-2 c = simp (if_left c.kind_is.ensures c.if-kind_is.false, if_taken c.kind_is-2.ensures c.if-kind_is-2.true, sym c.range_size.ensures.0)
 
 pub returns : goal.returns
 unfolding past_record
-returns c = simp (if_left c.before.before.before.kind_is_lem.ensures c.if-kind_is.false, if_left c.kind_is-2.ensures c.if-kind_is-2.false)
+returns c = simp (if_left c.kind_is.ensures c.if-kind_is.false, if_left c.kind_is-2.ensures c.if-kind_is-2.false)

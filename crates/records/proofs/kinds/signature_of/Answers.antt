@@ -39,4 +39,4 @@ returns-in_default c =
     (⊎_elim (λ w. unfit_below (omega arith))
     (⊎_elim (λ w. unfit_between (omega arith) (omega arith))
     (⊎_elim (λ w. unfit_behind (omega arith) (omega arith)) (λ w. unfit_above (omega arith))))
-    c.in_default.branch))
+    c.in_default.branch-raw))

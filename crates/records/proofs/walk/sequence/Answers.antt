@@ -5,13 +5,11 @@ use Rattle.records.proofs.walk.sequence.Goals as goal
 
 pub returns-in-Refused : goal.returns-in-Refused
 returns-in-Refused c =
-    let w = c.before.before.before in
-    sequence_refused _ _ _ w.loop-left.invariant w.loop-left-test.true w.walk-part.ensures c.in-Refused.is
+    sequence_refused _ _ _ c.loop-left.invariant c.loop-left-test.true c.walk-part.ensures c.in-Refused.is
 
 pub loop-left-preserved : goal.loop-left-preserved
 loop-left-preserved c =
-    let w = c.before.before.before in
-    sequence_ends _ _ _ w.loop-left.invariant w.loop-left-test.true w.walk-part.ensures c.in-End.is
+    sequence_ends _ _ _ c.loop-left.invariant c.loop-left-test.true c.walk-part.ensures c.in-End.is
 
 pub returns : goal.returns
 returns c = sequence_none _ _ _ c.loop-left.invariant c.loop-left-test.false

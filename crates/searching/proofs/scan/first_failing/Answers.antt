@@ -56,7 +56,7 @@ moved c =
     c.loop-n-test.true
     (⊎_elim {C = passes_of _ _ _ _ _ ≡ true} (λ w. passes_concluded _ _ _ _ _ premise w.0.taken w.1.ensures ∙ not-false _ w.2.left)
     (λ w. passes_vacuous _ _ _ _ _ premise w.left)
-    c.if-holds.branch)
+    c.if-holds.branch-raw)
     c.advance-next.ensures
 
 pub onward-to-requires : goal.onward-to-requires

@@ -9,24 +9,6 @@ use Rattle.intervals.specs.declared.Analysis.{Analysis}
 use Rattle.intervals.specs.Interval.{by_operands, analysis_of}
 use Rattle.intervals.proofs.Laws.Interval.{analysis_bounded}
 use Rattle.intervals.proofs.+analyse.Goals as goal
-use Rattle.intervals.proofs.+analyse.Goals.{After-signature_of-operands}
-
--- ---- the record at hand, once its kind is read
-module _ (t : ℕ) where
-  abbrev AtRecord : Type 0
-  AtRecord = After-signature_of-operands
-
-  abbrev args : (s : AtRecord) → goal.Args s.before.before.before.before.before.lifetimes
-  args s = s.before.before.before.before.before.args
-
-  abbrev analysed : AtRecord → ℕ → ℕ → Analysis
-  analysed s levels at = analysis_of (args s).file.now levels at
-
-  record_analysed : (s : AtRecord)
-      → analysed s (args s).levels (args s).at
-      ≡ by_operands (args s).file.now (args s).at (analysed s ((args s).levels - 1)) s.signature-of.result.operands
-  record_analysed s =
-      analyse_step _ _ _ s.signature-of.ensures _ s.before.before.if2.left s.before.before.before.if1.left
 
 pub returns-then-levels-eq0 : goal.returns-then-levels-eq0
 returns-then-levels-eq0 t c = sym (analyse_deep _ _ _ c.if-levels-eq0.true)
@@ -36,23 +18,16 @@ returns-then-file-at t c = sym (analyse_short _ _ _ c.if-file-at.true)
 
 pub returns-then-operands-eq0 : goal.returns-then-operands-eq0
 returns-then-operands-eq0 t c =
-    c.own.ensures ∙ own_same _ _ _ _ c.leaf.ensures ∙ sym (record_analysed t c.before.before.before ∙ by_none _ _ _ _ c.if-operands-eq0.true)
-
-pub analyse-left-requires : goal.analyse-left-requires
-analyse-left-requires t c = (omega (arith, c.requires.0), tt)
+    c.own.ensures ∙ own_same _ _ _ _ c.leaf.ensures ∙ sym (analyse_step _ _ _ c.signature_of-operands.ensures _ c.if-file-at.false c.if-levels-eq0.false ∙ by_none _ _ _ _ c.if-operands-eq0.true)
 
 pub returns-then-operands-eq1 : goal.returns-then-operands-eq1
 returns-then-operands-eq1 t c =
     let left_within = sym c.analyse-left.ensures ∙ c.in-Within.is in
-    c.own-then-operands-eq1.ensures ∙ sym (record_analysed t c.before.before.before.before.before.before.before ∙ by_one _ _ _ _ _ left_within _ c.if-operands-eq1.true)
-
-pub analyse-right-requires : goal.analyse-right-requires
-analyse-right-requires t c =
-    (omega (arith, c.requires.0), tt)
+    c.own-then-operands-eq1.ensures ∙ sym (analyse_step _ _ _ c.signature_of-operands.ensures _ c.if-file-at.false c.if-levels-eq0.false ∙ by_one _ _ _ _ _ left_within _ c.if-operands-eq1.true)
 
 pub join-requires : goal.join-requires
 join-requires t c =
-    record { left = analysis_bounded _ _ _ _ _ (sym c.analyse-left.ensures ∙ c.in-Within.is); right = analysis_bounded _ _ _ _ _ (sym c.analyse-right.ensures ∙ c.in-Within-right.is), }
+    record { left = analysis_bounded _ _ _ _ _ (sym c.analyse-left.ensures ∙ c.in-Within.is); right = analysis_bounded _ _ _ _ _ (sym c.analyse-right.ensures ∙ c.in-Within-right.is) }
 
 pub returns-in-Within-right : goal.returns-in-Within-right
 returns-in-Within-right t c =
@@ -60,16 +35,16 @@ returns-in-Within-right t c =
     let left_within = sym c.analyse-left.ensures ∙ c.in-Within.is in
     let right_within = sym c.analyse-right.ensures ∙ c.in-Within-right.is in
     c.own-in-Within-right.ensures ∙ own_same _ _ _ _ c.join.ensures
-    ∙ sym (record_analysed t c.before.before.before.before.before.before.before.before.before.before.before.before ∙ by_two _ _ _ _ _ left_within _ c.if-operands-eq0.false not_one _ _ right_within)
+    ∙ sym (analyse_step _ _ _ c.signature_of-operands.ensures _ c.if-file-at.false c.if-levels-eq0.false ∙ by_two _ _ _ _ _ left_within _ c.if-operands-eq0.false not_one _ _ right_within)
 
 pub returns-in-Out-right : goal.returns-in-Out-right
 returns-in-Out-right t c =
     let not_one = c.if-operands-eq1.false in
     let left_within = sym c.analyse-left.ensures ∙ c.in-Within.is in
     let out = sym c.analyse-right.ensures ∙ c.in-Out-right.is in
-    sym (record_analysed t c.before.before.before.before.before.before.before.before.before.before ∙ by_two_out _ _ _ _ _ left_within _ _ c.if-operands-eq0.false not_one out)
+    sym (analyse_step _ _ _ c.signature_of-operands.ensures _ c.if-file-at.false c.if-levels-eq0.false ∙ by_two_out _ _ _ _ _ left_within _ _ c.if-operands-eq0.false not_one out)
 
 pub returns-in-Out : goal.returns-in-Out
 returns-in-Out t c =
     let out = sym c.analyse-left.ensures ∙ c.in-Out.is in
-    sym (record_analysed t c.before.before.before.before.before ∙ by_out _ _ _ _ _ c.if-operands-eq0.false out)
+    sym (analyse_step _ _ _ c.signature_of-operands.ensures _ c.if-file-at.false c.if-levels-eq0.false ∙ by_out _ _ _ _ _ c.if-operands-eq0.false out)

@@ -40,4 +40,4 @@ returns-in-17 c =
 
 pub returns-in_default : goal.returns-in_default
 unfolding leaf_of
-returns-in_default c = let other = c.in_default.rest in rw (ne_eqb _ _ other.0.1, ne_eqb _ _ other.1)
+returns-in_default c = let other = c.in_default.in_default-own.rest in rw (ne_eqb _ _ other.0.1, ne_eqb _ _ other.1)

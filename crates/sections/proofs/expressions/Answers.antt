@@ -11,10 +11,10 @@ pub returns-then-property : goal.returns-then-property
 unfolding expressions_of
 returns-then-property c =
     let row = row_is c.property_of-property.ensures c.claim_at.ensures in
-    rw (if_taken (ap (λ (c.before.before : Property). c.before.before.entry) row) c.if-property.true, c.phases_or-claims.ensures.0)
+    rw (if_taken (ap (λ (p : Property). p.entry) row) c.if-property.true, c.phases_or-claims.ensures.0)
 
 pub returns : goal.returns
 unfolding expressions_of
 returns c =
     let row = row_is c.property_of-property.ensures c.claim_at.ensures in
-    rw (if_left (ap (λ (c.before.before : Property). c.before.before.entry) row) c.if-property.false) (c.phases_or-claims.ensures.0 ∙ sym (zero-add _))
+    rw (if_left (ap (λ (p : Property). p.entry) row) c.if-property.false) (c.phases_or-claims.ensures.0 ∙ sym (zero-add _))

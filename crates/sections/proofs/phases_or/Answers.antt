@@ -11,7 +11,7 @@ pub returns-then-property : goal.returns-then-property
 unfolding phases_or
 returns-then-property c =
     let row = row_is c.property_of-property.ensures c.claim_at.ensures in
-    (rw (if_taken (ap (λ (c.before.before : Property). c.before.before.phased) row) c.if-property.true) c.word_at.ensures.0, c.word_at.ensures.1)
+    (rw (if_taken (ap (λ (p : Property). p.phased) row) c.if-property.true) c.word_at.ensures.0, c.word_at.ensures.1)
 
 pub returns : goal.returns
 unfolding phases_or

@@ -10,14 +10,14 @@ pub returns-then-not-property : goal.returns-then-not-property
 unfolding property_fields
 returns-then-not-property c =
     let row = row_is c.property_of-property.ensures c.claim_at.ensures in
-    rw (unless_taken (ap (λ (c.before.before : Property). c.before.before.known) row) c.if-not-property.true)
+    rw (unless_taken (ap (λ (p : Property). p.known) row) c.if-not-property.true)
 
 pub returns-then-not-phases_fit : goal.returns-then-not-phases_fit
 unfolding property_fields
 returns-then-not-phases_fit c =
     let row = row_is c.property_of-property.ensures c.claim_at.ensures in
     rw (
-      unless_left (ap (λ (c.before.before.before.before.before : Property). c.before.before.before.before.before.known) row) c.if-not-property.false,
+      unless_left (ap (λ (p : Property). p.known) row) c.if-not-property.false,
       unless_taken (phases_are row c.word_at.ensures.0 c.phases_fit.ensures) c.if-not-phases_fit.true-raw,
     )
 
@@ -26,7 +26,7 @@ unfolding property_fields
 returns c =
     let row = row_is c.property_of-property.ensures c.claim_at.ensures in
     rw (
-      unless_left (ap (λ (c.before.before.before.before.before.before : Property). c.before.before.before.before.before.before.known) row) c.if-not-property.false,
+      unless_left (ap (λ (p : Property). p.known) row) c.if-not-property.false,
       unless_left (phases_are row c.word_at.ensures.0 c.phases_fit.ensures) c.if-not-phases_fit.false-raw,
     )
     c.zeros.ensures

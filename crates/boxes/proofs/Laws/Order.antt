@@ -85,10 +85,10 @@ lower_begin b = refl
 -- ---- what lies before the upper half
 
 module _ {leasts mosts s : List ℤ} (w : Within leasts mosts s) where
-  first_before : (low x : ℤ) (k : ℕ) → Precedes (x ∷ s) (at low (k + 1) ∷ leasts)
+  first_before : (low : ℤ) (k : ℕ) (x : ℤ) → Precedes (x ∷ s) (at low (k + 1) ∷ leasts)
       → Precedes (x ∷ s) (low ∷ leasts) ⊎ Within (low ∷ leasts) (at low k ∷ mosts) (x ∷ s)
-  first_before low x k (here l) = ⊎_elim (λ m. inr (more_values m (below_next low x k l) w)) (λ m. inl (here m)) (le_or_lt low x)
-  first_before low x k (there l) = absurd (none_precedes w l)
+  first_before low k x (here l) = ⊎_elim (λ m. inr (more_values m (below_next low x k l) w)) (λ m. inl (here m)) (le_or_lt low x)
+  first_before low k x (there l) = absurd (none_precedes w l)
 
 next_before : {value x : ℤ} {s t lows lows' highs' : List ℤ} → (Precedes s t → Precedes s lows ⊎ Within lows' highs' s) → Precedes (x ∷ s) (value ∷ t)
     → Precedes (x ∷ s) (value ∷ lows) ⊎ Within (value ∷ lows') (value ∷ highs') (x ∷ s)

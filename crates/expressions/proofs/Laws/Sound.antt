@@ -173,7 +173,7 @@ module _ (file : List ℕ) (vars : ℕ) (most : vars ≤ 12) (state : List ℤ)
             variable = λ v. rw (variable_part file at) (let l = o.variable (sym (form_part file at) ∙ v) in omega arith);
             divisor = λ w. rw (form_part file at, value_part file at) (o.divisor w);
           },
-          λ w. in_bounds (expression_bounded file vars want at end x) (lies w),
+          λ w. in_bounds_lem (expression_bounded file vars want at end x) (lies w),
           rw (kind_part file at) (operands_fit levels at end ih o.operands),
         );
         number_lies = lies;

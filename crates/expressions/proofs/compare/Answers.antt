@@ -16,4 +16,4 @@ returns-in-40 c = rw (to_z-of_z c.ranges.x, to_z-of_z c.ranges.y, c.in-40.is)
 pub returns-in_default : goal.returns-in_default
 unfolding compare_of
 returns-in_default c = rw
-    (to_z-of_z c.ranges.x, to_z-of_z c.ranges.y, ne_eqb c.args.kind 0x27 c.in_default.rest.0.1, ne_eqb c.args.kind 0x28 c.in_default.rest.1)
+    (to_z-of_z c.ranges.x, to_z-of_z c.ranges.y, ne_eqb c.args.kind 0x27 c.in_default.in_default-own.rest.0.1, ne_eqb c.args.kind 0x28 c.in_default.in_default-own.rest.1)

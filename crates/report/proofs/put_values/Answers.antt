@@ -21,7 +21,7 @@ value_fits : (c : After-value-1)
 value_fits c = record { sfits = c.value-1.given }
 
 pub loop-i-init : goal.loop-i-init
-loop-i-init c = filled_begin _ _ c.requires (twelve c.before)
+loop-i-init c = filled_begin _ _ c.requires (twelve c.before.before)
 
 pub bounds-report-i-in-loop-i : goal.bounds-report-i-in-loop-i
 bounds-report-i-in-loop-i c = simp length-set (omega arith)

@@ -5,7 +5,7 @@ use Rattle.report.proofs.Steps.Report.{ValuesWritten}
 use Rattle.report.proofs.put_values.Given as goal
 
 abbrev pub invariant-loop-i : goal.invariant-loop-i
-invariant-loop-i l = ValuesWritten l.values l.initial.report l.report l.i
+invariant-loop-i l = ValuesWritten l.initial.report l.values l.report l.i
 
 abbrev pub decreases-loop-i : goal.decreases-loop-i
 decreases-loop-i l = 12 - l.i

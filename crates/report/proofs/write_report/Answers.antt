@@ -36,7 +36,7 @@ pub bounds-report-7 : goal.bounds-report-7
 bounds-report-7 c = simp length-set (omega arith)
 
 pub shape_of-report : goal.shape_of-report
-shape_of-report c = c.put_values.auto.1.0 ∙ simp length-set
+shape_of-report c = c.put_values.auto.report ∙ simp length-set
 
 pub returns : goal.returns
 unfolding report_of report_bytes

@@ -13,4 +13,4 @@ returns-in-40 c = rw (c.in-40.is, ← c.at_most-in-40.ensures) c.opposite.ensure
 
 pub returns-in_default : goal.returns-in_default
 unfolding compare_in
-returns-in_default c = rw (ne_eqb _ 0x27 c.in_default.rest.0.1, ne_eqb _ 0x28 c.in_default.rest.1) c.at_most-in_default.ensures
+returns-in_default c = rw (ne_eqb _ 0x27 c.in_default.in_default-own.rest.0.1, ne_eqb _ 0x28 c.in_default.in_default-own.rest.1) c.at_most-in_default.ensures

@@ -17,5 +17,5 @@ returns-in-37 c = rw c.in-37.is c.implies.ensures
 
 pub returns-in_default : goal.returns-in_default
 unfolding connect_in
-returns-in_default c = let r = c.in_default.rest in
+returns-in_default c = let r = c.in_default.in_default-own.rest in
     rw (ne_eqb _ 0x23 r.0.0.1, ne_eqb _ 0x24 r.0.1, ne_eqb _ 0x25 r.1) c.same.ensures

@@ -13,12 +13,12 @@ edge_of-edge-requires c = record { loaded = c.requires; there = c.loop-e-test.tr
 pub returns-then-double_from : goal.returns-then-double_from
 returns-then-double_from c =
     passed_here _ _ _ c.loop-e.invariant c.loop-e-test.true
-    c.before.before.Edge-of.ensures (sym c.double_from.ensures ∙ c.if-double_from.true)
+    c.edge_of-edge.ensures (sym c.double_from.ensures ∙ c.if-double_from.true)
 
 pub loop-e-preserved : goal.loop-e-preserved
 loop-e-preserved c =
     passed_more _ _ _ c.loop-e.invariant c.loop-e-test.true
-    c.before.before.Edge-of.ensures (sym c.double_from.ensures ∙ c.if-double_from.false)
+    c.edge_of-edge.ensures (sym c.double_from.ensures ∙ c.if-double_from.false)
 
 pub returns : goal.returns
 returns c = passed_end _ _ _ c.loop-e.invariant c.loop-e-test.false

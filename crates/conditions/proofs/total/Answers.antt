@@ -5,25 +5,21 @@ use Rattle.diagrams.proofs.Laws.Diagram.{promised}
 use Rattle.conditions.proofs.Laws.Condition.{Bounds}
 use Rattle.conditions.proofs.Steps.Condition.{laid_bounds, laid_total}
 use Rattle.conditions.proofs.total.Goals as goal
-use Rattle.conditions.proofs.total.Goals.{After-layout-l}
-
-bounds : (c : After-layout-l) → Bounds c.args.file.now c.args.diagram c.layout-l.result
-bounds c = laid_bounds _ _ c.requires c.layout-l.ensures
 
 pub layout-l-requires : goal.layout-l-requires
 layout-l-requires c = (promised _ _ c.requires).transitions
 
 pub overflow_sub-nodes : goal.overflow_sub-nodes
-overflow_sub-nodes c = omega (arith, (bounds c.before.before).from)
+overflow_sub-nodes c = omega (arith, (laid_bounds _ _ c.requires c.layout-l.ensures).from)
 
 pub overflow_add-result : goal.overflow_add-result
-overflow_add-result c = let b = bounds c.before.before.before in omega (arith, b.nodes, b.covers)
+overflow_add-result c = let b = laid_bounds _ _ c.requires c.layout-l.ensures in omega (arith, b.nodes, b.covers)
 
 pub overflow_mul-result : goal.overflow_mul-result
-overflow_mul-result c = omega (arith, (bounds c.before.before.before.before).product)
+overflow_mul-result c = omega (arith, (laid_bounds _ _ c.requires c.layout-l.ensures).product)
 
 pub overflow_add-result-2 : goal.overflow_add-result-2
-overflow_add-result-2 c = let b = bounds c.before.before.before.before in omega (arith, b.nodes, b.covers, b.product)
+overflow_add-result-2 c = let b = laid_bounds _ _ c.requires c.layout-l.ensures in omega (arith, b.nodes, b.covers, b.product)
 
 pub returns : goal.returns
 returns c = laid_total _ _ c.requires c.layout-l.ensures

@@ -21,14 +21,16 @@ node_places-nodes-requires c = nodes_ask _ _ c.requires
 pub assertions-assertions-requires : goal.assertions-assertions-requires
 assertions-assertions-requires c =
     let row = c.property_of-property.ensures ∙ ap property_of c.claim_at-claim.ensures in
-    assertions_ask _ _ c.requires row c.node_places-nodes.ensures
+    let asks = assertions_ask _ _ c.requires row c.node_places-nodes.ensures in
+    record { most = asks.0; small = asks.1 }
 
 pub transition_places-steps-requires : goal.transition_places-steps-requires
 transition_places-steps-requires c = transitions_ask _ _ c.requires
 
 pub count-requires : goal.count-requires
 count-requires c =
-    count_asks _ _ c.requires c.lows-low.ensures c.highs-high.ensures
+    let asks = count_asks _ _ c.requires c.lows-low.ensures c.highs-high.ensures in
+    record { ranges = asks.0; most = asks.1 }
 
 pub overflow_add-result : goal.overflow_add-result
 overflow_add-result c = omega (arith, vars_few _ _ c.requires)

@@ -201,6 +201,7 @@ module _ (value : Update → ℤ) where
   pub updated_value : (v : ℕ) (l h x : ℤ) → ((u : Update) → u.low ≡ l → u.high ≡ h → value u ≡ x)
       → (list : List Update) (state : List ℤ) → v < length state → Once list → SetIn v l h list → get_or (updated value list state) v (pos 0) ≡ x
   unfolding updated
+  updated_value v l h x is [] state m o y = elim y [ ]
   updated_value v l h x is (a ∷ rest) state m o (SetIn.here p q r) =
       updated_rest v rest (set state a.variable (value a)) (subst (λ (w : ℕ). Unset w rest) p o.0)
       ∙ subst (λ (w : ℕ). get_or (set state w (value a)) v (pos 0) ≡ x) (sym p) (get_or-set_same state v (value a) (pos 0) m ∙ is a q r)
@@ -259,5 +260,6 @@ module _ (file : List ℕ) (vars end : ℕ) (state : List ℤ) where
   found_once at (Updates.more {mid = mid} e l x rest apart) = (rw (found_is x).3 (found_apart (field_a file at) mid rest apart), found_once mid rest)
 
   pub found_named : (v : ℕ) (y z : ℤ) (at : ℕ) {vs : List ℕ} (h : Updates file vars end at vs) → SetIn v y z (found h state) → v < vars
+  found_named v y z at (Updates.none e) m = elim m [ ]
   found_named v y z at (Updates.more e l x rest apart) (SetIn.here p q r) = omega (arith, (found_is x).3)
   found_named v y z at (Updates.more {mid = mid} e l x rest apart) (SetIn.later m) = found_named v y z mid rest m

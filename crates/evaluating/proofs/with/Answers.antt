@@ -8,9 +8,12 @@ use Rattle.evaluating.proofs.Laws.Transition.{in_range_ends}
 use Rattle.evaluating.proofs.with.Goals as goal
 
 pub assign-requires : goal.assign-requires
-assign-requires c = let a = c.args in rw
-    (back w16 (get_or a.t1 a.i (pos 0)) c.l-1.given, back w16 (get_or a.t2 a.i (pos 0)) c.h-1.given, to_z-of_z c.ranges.x)
-    (c.requires.variable, in_range_ends _ _ _ _ c.requires.range)
+assign-requires c =
+    let a = c.args in
+    let ends = in_range_ends _ _ _ _ c.requires.range in
+    rw
+    (back w16 (get_or a.low a.i (pos 0)) c.l-1.given, back w16 (get_or a.high a.i (pos 0)) c.h-1.given, to_z-of_z c.ranges.x)
+    (record { index = c.requires.variable; above = ends.0; below = ends.1 })
 
 pub returns : goal.returns
 returns c = rw (to_z-of_z c.ranges.x) at c.assign.ensures

@@ -18,13 +18,13 @@ is c =
     let l = c.widen in
     let h = c.widen-2 in
     rw (
-      back w64 l.result l.ok,
+      back w64 l.result l.type_inv,
       l.ensures,
-      back w64 h.result h.ok,
+      back w64 h.result h.type_inv,
       h.ensures,
       back w16 (get_or a.ranges.low a.i (pos 0)) c.l-1.given,
       back w16 (get_or a.ranges.high a.i (pos 0)) c.h-1.given,
-      to_z-of_z c.before.before.before.before.before.before.before.fits.x,
+      to_z-of_z c.ranges.x,
     ) at c.cut.ensures
 
 kept : (c : After-cut) → SFits w16 c.cut.result
@@ -34,4 +34,4 @@ pub overflow_cast-result : goal.overflow_cast-result
 overflow_cast-result c = let k = kept c in search rules
 
 pub returns : goal.returns
-returns c = rw (back w64 c.cut.result c.cut.ok) (to_z-of_z (kept c) ∙ is c)
+returns c = rw (back w64 c.cut.result c.cut.type_inv) (to_z-of_z (kept c) ∙ is c)

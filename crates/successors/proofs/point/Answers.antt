@@ -8,4 +8,4 @@ use Rattle.successors.proofs.point.Goals as goal
 
 pub returns : goal.returns
 returns c = let w = c.widen-x in let f = c.ranges.v in
-    rw (back w64 w.result w.type_inv, w.ensures, to_z-of_z f) (refl, record { low = small f; high = small f })
+    rw (back w64 w.result w.type_inv, w.ensures, to_z-of_z f) (record { is = refl; bounded = record { low = small f; high = small f } })

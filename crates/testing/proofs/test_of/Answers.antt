@@ -1,6 +1,10 @@
 -- `testing::test_of` meets its contract, by the condition.
 -- Assumes nothing.
 use mathlib.Core.Path.{◌≡◌, ◌∙◌}
+use mathlib.Core.List.{List}
+use Rattle.diagrams.specs.declared.Diagram.{Diagram}
+use Rattle.diagrams.specs.Diagram.{Loaded}
+use Rattle.conditions.specs.Condition.{Listed}
 use Prim.Native.Nat.{ℕ, ◌≤◌, ◌<◌}
 use native.Mathlib.Omega.{arith}
 use lib.ListN.{get_or}
@@ -8,99 +12,98 @@ use Rattle.conditions.specs.declared.Condition.{Condition}
 use Rattle.conditions.proofs.Laws.Condition.{Parts}
 use Rattle.testing.proofs.Steps.Testing.{parts_of, keeps, test_start, test_entry, test_cover, test_range, test_step, test_enabling}
 use Rattle.testing.proofs.test_of.Goals as goal
-use Rattle.testing.proofs.test_of.Goals.{Start}
 
-module _ (s : Start) where
-  few : s.args.diagram.nodes ≤ 32
-  few = (keeps _ _ s.requires.loaded).nodes.1
+module _ {file : List ℕ} {g : Diagram} (r : Loaded file g) where
+  few : g.nodes ≤ 32
+  few = (keeps _ _ r).nodes.1
 
-  moves : s.args.diagram.transitions ≤ 32
-  moves = (keeps _ _ s.requires.loaded).transitions
+  moves : g.transitions ≤ 32
+  moves = (keeps _ _ r).transitions
 
-  small : (n : ℕ) → n < s.args.diagram.nodes → get_or s.args.diagram.assertions n 0 ≤ 4096
-  small n l = ((keeps _ _ s.requires.loaded).assertion n l).small
+  small : (n : ℕ) → n < g.nodes → get_or g.assertions n 0 ≤ 4096
+  small n l = ((keeps _ _ r).assertion n l).small
 
   -- what the condition speaks of is there
-  parts : {d : Condition} → s.args.condition ≡ d → Parts s.args.diagram d
-  parts e = parts_of _ _ s.requires.loaded s.requires.listed e
+  parts : {c d : Condition} → Listed file g c → c ≡ d → Parts g d
+  parts l e = parts_of _ _ r l e
 
 pub choose-all-requires : goal.choose-all-requires
-choose-all-requires c = record { most = few c.before.before.before.before.before; small = small c.before.before.before.before.before }
+choose-all-requires c = record { most = few c.requires.loaded; small = small c.requires.loaded }
 
 pub choose-all-requires-in-Entry : goal.choose-all-requires-in-Entry
-choose-all-requires-in-Entry c = record { most = few c.before.before.before.before.before; small = small c.before.before.before.before.before }
+choose-all-requires-in-Entry c = record { most = few c.requires.loaded; small = small c.requires.loaded }
 
 pub q_at-requires : goal.q_at-requires
 q_at-requires c =
-    record { loaded = c.requires.loaded; there = parts c.before.before.before.before.before.before c.in-Cover.is }
+    record { loaded = c.requires.loaded; there = parts c.requires.loaded c.requires.listed c.in-Cover.is }
 
 pub one-q-requires : goal.one-q-requires
 one-q-requires c =
-    rw c.q_at.ensures ((keeps _ _ c.requires.loaded).q _ (parts c.before.before.before.before.before.before.before c.in-Cover.is)).small
+    rw c.q_at.ensures ((keeps _ _ c.requires.loaded).q _ (parts c.requires.loaded c.requires.listed c.in-Cover.is)).small
 
 pub offset_bounds-assertions-n : goal.offset_bounds-assertions-n
 offset_bounds-assertions-n c =
-    omega (arith, parts c.before.before.before.before.before.before.before.before c.in-Cover.is, few c.before.before.before.before.before.before.before.before)
+    omega (arith, parts c.requires.loaded c.requires.listed c.in-Cover.is, few c.requires.loaded)
 
 pub bounds-assertions-n : goal.bounds-assertions-n
 bounds-assertions-n c =
-    omega (arith, parts c.before.before.before.before.before.before.before.before c.in-Cover.is, few c.before.before.before.before.before.before.before.before)
+    omega (arith, parts c.requires.loaded c.requires.listed c.in-Cover.is, few c.requires.loaded)
 
 pub offset_bounds-steps-t : goal.offset_bounds-steps-t
 offset_bounds-steps-t c =
-    omega (arith, (parts c.before.before.before.before.before.before c.in-Range.is).1, moves c.before.before.before.before.before.before)
+    omega (arith, (parts c.requires.loaded c.requires.listed c.in-Range.is).1, moves c.requires.loaded)
 
 pub bounds-steps-t : goal.bounds-steps-t
 bounds-steps-t c =
-    omega (arith, (parts c.before.before.before.before.before.before c.in-Range.is).1, moves c.before.before.before.before.before.before)
+    omega (arith, (parts c.requires.loaded c.requires.listed c.in-Range.is).1, moves c.requires.loaded)
 
 pub offset_bounds-assertions-n-in-Range : goal.offset_bounds-assertions-n-in-Range
 offset_bounds-assertions-n-in-Range c =
-    omega (arith, (parts c.before.before.before.before.before.before c.in-Range.is).0, few c.before.before.before.before.before.before)
+    omega (arith, (parts c.requires.loaded c.requires.listed c.in-Range.is).0, few c.requires.loaded)
 
 pub bounds-assertions-n-in-Range : goal.bounds-assertions-n-in-Range
 bounds-assertions-n-in-Range c =
-    omega (arith, (parts c.before.before.before.before.before.before c.in-Range.is).0, few c.before.before.before.before.before.before)
+    omega (arith, (parts c.requires.loaded c.requires.listed c.in-Range.is).0, few c.requires.loaded)
 
 pub offset_bounds-steps-t-in-Step : goal.offset_bounds-steps-t-in-Step
 offset_bounds-steps-t-in-Step c =
-    omega (arith, (parts c.before.before.before.before.before.before c.in-Step.is).1, moves c.before.before.before.before.before.before)
+    omega (arith, (parts c.requires.loaded c.requires.listed c.in-Step.is).1, moves c.requires.loaded)
 
 pub bounds-steps-t-in-Step : goal.bounds-steps-t-in-Step
 bounds-steps-t-in-Step c =
-    omega (arith, (parts c.before.before.before.before.before.before c.in-Step.is).1, moves c.before.before.before.before.before.before)
+    omega (arith, (parts c.requires.loaded c.requires.listed c.in-Step.is).1, moves c.requires.loaded)
 
 pub marks-marks-requires : goal.marks-marks-requires
 marks-marks-requires c =
-    record { loaded = c.requires.loaded; there = (parts c.before.before.before.before.before.before.before c.in-Step.is).0 }
+    record { loaded = c.requires.loaded; there = (parts c.requires.loaded c.requires.listed c.in-Step.is).0 }
 
 pub choose-targets-requires : goal.choose-targets-requires
 choose-targets-requires c =
-    record { most = few c.before.before.before.before.before.before.before.before; small = small c.before.before.before.before.before.before.before.before }
+    record { most = few c.requires.loaded; small = small c.requires.loaded }
 
 pub offset_bounds-assertions-n-in-Step : goal.offset_bounds-assertions-n-in-Step
 offset_bounds-assertions-n-in-Step c =
-    omega (arith, (parts c.before.before.before.before.before.before.before.before.before c.in-Step.is).0, few c.before.before.before.before.before.before.before.before.before)
+    omega (arith, (parts c.requires.loaded c.requires.listed c.in-Step.is).0, few c.requires.loaded)
 
 pub bounds-assertions-n-in-Step : goal.bounds-assertions-n-in-Step
 bounds-assertions-n-in-Step c =
-    omega (arith, (parts c.before.before.before.before.before.before.before.before.before c.in-Step.is).0, few c.before.before.before.before.before.before.before.before.before)
+    omega (arith, (parts c.requires.loaded c.requires.listed c.in-Step.is).0, few c.requires.loaded)
 
 pub offset_bounds-steps-t-in-Enabling : goal.offset_bounds-steps-t-in-Enabling
 offset_bounds-steps-t-in-Enabling c =
-    omega (arith, (parts c.before.before.before.before.before.before c.in-Enabling.is).1, moves c.before.before.before.before.before.before)
+    omega (arith, (parts c.requires.loaded c.requires.listed c.in-Enabling.is).1, moves c.requires.loaded)
 
 pub bounds-steps-t-in-Enabling : goal.bounds-steps-t-in-Enabling
 bounds-steps-t-in-Enabling c =
-    omega (arith, (parts c.before.before.before.before.before.before c.in-Enabling.is).1, moves c.before.before.before.before.before.before)
+    omega (arith, (parts c.requires.loaded c.requires.listed c.in-Enabling.is).1, moves c.requires.loaded)
 
 pub offset_bounds-assertions-n-in-Enabling : goal.offset_bounds-assertions-n-in-Enabling
 offset_bounds-assertions-n-in-Enabling c =
-    omega (arith, (parts c.before.before.before.before.before.before c.in-Enabling.is).0, few c.before.before.before.before.before.before)
+    omega (arith, (parts c.requires.loaded c.requires.listed c.in-Enabling.is).0, few c.requires.loaded)
 
 pub bounds-assertions-n-in-Enabling : goal.bounds-assertions-n-in-Enabling
 bounds-assertions-n-in-Enabling c =
-    omega (arith, (parts c.before.before.before.before.before.before c.in-Enabling.is).0, few c.before.before.before.before.before.before)
+    omega (arith, (parts c.requires.loaded c.requires.listed c.in-Enabling.is).0, few c.requires.loaded)
 
 pub returns-in-Start : goal.returns-in-Start
 returns-in-Start c =
@@ -129,7 +132,7 @@ pub returns-in-Step : goal.returns-in-Step
 returns-in-Step c =
     let e = c.in-Step.is in
     c.prepared-in-Step.ensures
-    ∙ test_step _ _ c.requires.loaded e (parts c.before.before.before.before.before.before.before.before.before.before e).1 c.double_of.ensures c.marks-marks.ensures
+    ∙ test_step _ _ c.requires.loaded e (parts c.requires.loaded c.requires.listed e).1 c.double_of.ensures c.marks-marks.ensures
     c.choose-targets.ensures
 
 pub returns-in-Enabling : goal.returns-in-Enabling

@@ -10,7 +10,6 @@ use mathlib.Core.Path.{◌≡◌, refl, sym}
 use mathlib.Core.Bool.{Bool, true, false, true≢false, not, cond, ◌&&◌}
 use Prim.Native.Nat.{ℕ}
 use lib.IntN.{ℤ, pos, ◌-ℤ◌}
-use lib.Dec.{eqb}
 use lib.Signed.{le_z, lt_z, ◌≤ℤ◌, ≤ℤ_refl}
 use mir.Syntax.{Width}
 use mir.Val.{SFits}

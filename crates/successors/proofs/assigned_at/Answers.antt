@@ -1,7 +1,6 @@
 -- `successors::assigned_at`: the value's expression fits, so its records are there; the table of lengths says where it ends. Assumes nothing.
-use Prim.Native.Nat.{◌+◌, ◌*◌, ◌≤◌}
+use Prim.Native.Nat.{◌+◌, ◌*◌}
 use native.Mathlib.Omega.{arith}
-use lib.ListN.{length, get_or}
 use Rattle.records.specs.Kind.{number as number_sort}
 use Rattle.expressions.proofs.Laws.Expression.{fits_here}
 use Rattle.expressions.proofs.Laws.Part.{take_rest, lent, entry, behind_is, behind_within}
@@ -45,6 +44,6 @@ overflow_add-result c = omega (arith, fits_here c.args.file.now (c.args.at + 1) 
 
 pub returns : goal.returns
 unfolding assigned_at
-returns c = 
+returns c =
     rw (c.byte_at-variable.ensures, c.number_in-extent.ensures, take_rest (8 * (c.args.at + 1)) c.args.file.now)
     (rw (behind_is _ _ c.requires.spans number_sort (c.args.at + 1) _ c.requires.fits))

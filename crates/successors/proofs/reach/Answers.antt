@@ -1,11 +1,9 @@
 -- `successors::reach`: what is left to be made of m is what all the updates make of the box (`Left`). The measure is the updates left.
 -- Assumes nothing.
 use mathlib.Core.Path.{◌≡◌, refl, sym, ◌∙◌}
-use mathlib.Core.Bool.{true}
 use Prim.Native.Nat.{suc, ◌-◌}
 use native.Mathlib.Omega.{arith}
 use borrow.Author.Tests.{not-true, not-false}
-use Rattle.sections.specs.Section.{is_update}
 use Rattle.evaluating.proofs.Laws.Transition.{fits_more}
 use Rattle.successors.proofs.Steps.Successor.{left_none, left_end, left_variable, left_more}
 use Rattle.successors.proofs.reach.Goals as goal
@@ -26,7 +24,7 @@ pub toward-m-requires : goal.toward-m-requires
 toward-m-requires c =
     let left : c.loop-left.left ≡ suc (c.loop-left.left - 1) = omega (arith, c.loop-left-test.true) in
     let named = sym c.is_update.ensures ∙ not-false _ c.if-not-is_update.false-raw in
-    let l = c.loop-left.invariant in 
+    let l = c.loop-left.invariant in
     record { variable = left_variable _ _ _ _ l _ left named c.target_at-t.ensures.is; bounded = c.target_at-t.ensures.bounded }
 
 pub loop-left-preserved : goal.loop-left-preserved

@@ -1,5 +1,6 @@
 // What is known, on a box of states, of the expression that a part of the file begins with.
 #![tactic(auto)]
+
 ghost use Rattle.std.specs.Prelude.{◌≡◌, ◌+◌, ◌*◌, ◌≤◌, length, drop};
 ghost use Rattle.records.specs.Kind.{number as number_sort, truth as truth_sort};
 ghost use Rattle.expressions.specs.Expression.{part_at};

@@ -1,5 +1,6 @@
 // What the expression that a part of the file begins with is worth in a state.
 #![tactic(auto)]
+
 pub mod spans;
 
 ghost use Rattle.std.specs.Prelude.{◌≡◌, ◌+◌, ◌*◌, ◌≤◌, length, drop};

@@ -1,25 +1,25 @@
 -- `enclosures::seen_in` lends the rest of the file from the expression's record on. Assumes nothing.
-use Prim.Native.Nat.{◌+◌, ◌*◌, ◌≤◌}
+use Prim.Native.Nat.{◌*◌}
 use native.Mathlib.Omega.{arith}
-use lib.ListN.{length}
 use Rattle.records.specs.Kind.{truth as truth_sort}
 use Rattle.expressions.proofs.Laws.Expression.{fits_here}
 use Rattle.expressions.proofs.Laws.Part.{take_rest, lent}
 use Rattle.enclosures.specs.Enclosure.{seen_of}
 use Rattle.enclosures.proofs.seen_in.Goals as goal
-use Rattle.enclosures.proofs.seen_in.Goals.{Start}
-
-here : (s : Start) → 8 * s.args.at + 8 ≤ length s.args.file.now
-here s = fits_here s.args.file.now s.args.at 16 truth_sort s.args.b.low s.requires.fits
 
 pub overflow_mul-at : goal.overflow_mul-at
-overflow_mul-at c = omega (arith, here c.before)
+overflow_mul-at c = omega (arith, fits_here c.args.file.now c.args.at 16 truth_sort c.args.b.low c.requires.fits)
+
+pub slice_bounds-truth_in-start : goal.slice_bounds-truth_in-start
+slice_bounds-truth_in-start c = omega (arith, fits_here c.args.file.now c.args.at 16 truth_sort c.args.b.low c.requires.fits)
 
 pub slice_bounds-truth_in-count : goal.slice_bounds-truth_in-count
-slice_bounds-truth_in-count c = omega (arith, here c.before)
+slice_bounds-truth_in-count c = omega (arith, fits_here c.args.file.now c.args.at 16 truth_sort c.args.b.low c.requires.fits)
 
 pub truth_in-requires : goal.truth_in-requires
-truth_in-requires c = lent _ _ c.requires.spans truth_sort c.args.at _ c.requires.fits
+truth_in-requires c =
+    let l = lent _ _ c.requires.spans truth_sort c.args.at _ c.requires.fits in
+    record { fits = l.0; room = l.1.0; spans = l.1.1 }
 
 pub returns : goal.returns
 unfolding seen_of

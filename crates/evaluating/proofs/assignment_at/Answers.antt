@@ -9,43 +9,41 @@ use Rattle.evaluating.specs.Transition.{assignment_at}
 use Rattle.expressions.proofs.Laws.Expression.{fits_here}
 use Rattle.expressions.proofs.Laws.Part.{take_rest, lent, entry, behind_is, behind_within}
 use Rattle.evaluating.proofs.assignment_at.Goals as goal
-use Rattle.evaluating.proofs.assignment_at.Goals.{Start}
-
-here : (s : Start) → 8 * (s.args.at + 1) + 8 ≤ length s.args.file.now
-here s = fits_here s.args.file.now (s.args.at + 1) 16 number_sort s.args.state s.requires.fits
-
-end : (s : Start) → 8 * (s.args.at + 1 + get_or s.args.spans.now (s.args.at + 1) 0) ≤ length s.args.file.now
-end s = behind_within _ _ s.requires.spans number_sort (s.args.at + 1) _ s.requires.fits
 
 pub overflow_mul-at : goal.overflow_mul-at
-overflow_mul-at c = omega (arith, here c.before)
+overflow_mul-at c = omega (arith, fits_here c.args.file.now (c.args.at + 1) 16 number_sort c.args.state c.requires.fits)
 
 pub overflow_add-at : goal.overflow_add-at
-overflow_add-at c = omega (arith, here c.before)
+overflow_add-at c = omega (arith, fits_here c.args.file.now (c.args.at + 1) 16 number_sort c.args.state c.requires.fits)
 
 pub overflow_add-from : goal.overflow_add-from
-overflow_add-from c = omega (arith, here c.before.before)
+overflow_add-from c = omega (arith, fits_here c.args.file.now (c.args.at + 1) 16 number_sort c.args.state c.requires.fits)
 
 pub overflow_mul-from : goal.overflow_mul-from
-overflow_mul-from c = omega (arith, here c.before.before)
+overflow_mul-from c = omega (arith, fits_here c.args.file.now (c.args.at + 1) 16 number_sort c.args.state c.requires.fits)
+
+pub slice_bounds-number_at-start : goal.slice_bounds-number_at-start
+slice_bounds-number_at-start c = omega (arith, fits_here c.args.file.now (c.args.at + 1) 16 number_sort c.args.state c.requires.fits)
 
 pub slice_bounds-number_at-count : goal.slice_bounds-number_at-count
-slice_bounds-number_at-count c = omega (arith, here c.before.before)
+slice_bounds-number_at-count c = omega (arith, fits_here c.args.file.now (c.args.at + 1) 16 number_sort c.args.state c.requires.fits)
 
 pub number_at-value-requires : goal.number_at-value-requires
-number_at-value-requires c = lent _ _ c.requires.spans number_sort (c.args.at + 1) _ c.requires.fits
+number_at-value-requires c =
+    let part = lent _ _ c.requires.spans number_sort (c.args.at + 1) _ c.requires.fits in
+    record { fits = part.0; room = part.1.0; spans = part.1.1 }
 
 pub offset_bounds-spans-from : goal.offset_bounds-spans-from
-offset_bounds-spans-from c = omega (arith, here c.before.before.before.before)
+offset_bounds-spans-from c = omega (arith, fits_here c.args.file.now (c.args.at + 1) 16 number_sort c.args.state c.requires.fits)
 
 pub bounds-spans-from : goal.bounds-spans-from
 bounds-spans-from c = omega (arith, entry _ _ c.requires.spans number_sort (c.args.at + 1) _ c.requires.fits)
 
 pub overflow_cast-result : goal.overflow_cast-result
-overflow_cast-result c = omega (arith, here c.before.before.before.before.before, end c.before.before.before.before.before)
+overflow_cast-result c = omega (arith, fits_here c.args.file.now (c.args.at + 1) 16 number_sort c.args.state c.requires.fits, behind_within _ _ c.requires.spans number_sort (c.args.at + 1) _ c.requires.fits)
 
 pub overflow_add-result : goal.overflow_add-result
-overflow_add-result c = omega (arith, here c.before.before.before.before.before, end c.before.before.before.before.before)
+overflow_add-result c = omega (arith, fits_here c.args.file.now (c.args.at + 1) 16 number_sort c.args.state c.requires.fits, behind_within _ _ c.requires.spans number_sort (c.args.at + 1) _ c.requires.fits)
 
 pub returns : goal.returns
 unfolding assignment_at

@@ -10,25 +10,23 @@ use Rattle.expressions.proofs.Laws.Expression.{fits_here}
 use Rattle.expressions.proofs.Laws.Part.{take_rest, lent, entry, behind_is, behind_within}
 use Rattle.evaluating.proofs.Steps.Transition.{step_off, step_on}
 use Rattle.evaluating.proofs.step.Goals as goal
-use Rattle.evaluating.proofs.step.Goals.{Start}
-
-here : (s : Start) → 8 * (s.args.at + 1) + 8 ≤ length s.args.file.now
-here s = fits_here s.args.file.now (s.args.at + 1) 16 truth_sort s.args.state s.requires.fits.guard
-
-end : (s : Start) → 8 * (s.args.at + 1 + get_or s.args.spans.now (s.args.at + 1) 0) ≤ length s.args.file.now
-end s = behind_within _ _ s.requires.spans truth_sort (s.args.at + 1) _ s.requires.fits.guard
 
 pub overflow_add-from : goal.overflow_add-from
-overflow_add-from c = omega (arith, here c.before)
+overflow_add-from c = omega (arith, fits_here c.args.file.now (c.args.at + 1) 16 truth_sort c.args.state c.requires.fits.guard)
 
 pub overflow_mul-from : goal.overflow_mul-from
-overflow_mul-from c = omega (arith, here c.before)
+overflow_mul-from c = omega (arith, fits_here c.args.file.now (c.args.at + 1) 16 truth_sort c.args.state c.requires.fits.guard)
+
+pub slice_bounds-truth_at-start : goal.slice_bounds-truth_at-start
+slice_bounds-truth_at-start c = omega (arith, fits_here c.args.file.now (c.args.at + 1) 16 truth_sort c.args.state c.requires.fits.guard)
 
 pub slice_bounds-truth_at-count : goal.slice_bounds-truth_at-count
-slice_bounds-truth_at-count c = omega (arith, here c.before)
+slice_bounds-truth_at-count c = omega (arith, fits_here c.args.file.now (c.args.at + 1) 16 truth_sort c.args.state c.requires.fits.guard)
 
 pub truth_at-requires : goal.truth_at-requires
-truth_at-requires c = lent _ _ c.requires.spans truth_sort (c.args.at + 1) _ c.requires.fits.guard
+truth_at-requires c =
+    let part = lent _ _ c.requires.spans truth_sort (c.args.at + 1) _ c.requires.fits.guard in
+    record { fits = part.0; room = part.1.0; spans = part.1.1 }
 
 pub returns-then-not-truth_at : goal.returns-then-not-truth_at
 unfolding guard_of
@@ -37,16 +35,16 @@ returns-then-not-truth_at c =
     ((rw (take_rest (8 * (c.args.at + 1)) c.args.file.now) at (sym c.truth_at.ensures)) ∙ not-true _ c.if-not-truth_at.true-raw)
 
 pub offset_bounds-spans-from : goal.offset_bounds-spans-from
-offset_bounds-spans-from c = omega (arith, here c.before.before.before.before)
+offset_bounds-spans-from c = omega (arith, fits_here c.args.file.now (c.args.at + 1) 16 truth_sort c.args.state c.requires.fits.guard)
 
 pub bounds-spans-from : goal.bounds-spans-from
 bounds-spans-from c = entry _ _ c.requires.spans truth_sort (c.args.at + 1) _ c.requires.fits.guard
 
 pub overflow_cast-spans : goal.overflow_cast-spans
-overflow_cast-spans c = omega (arith, here c.before.before.before.before.before, end c.before.before.before.before.before)
+overflow_cast-spans c = omega (arith, fits_here c.args.file.now (c.args.at + 1) 16 truth_sort c.args.state c.requires.fits.guard, behind_within _ _ c.requires.spans truth_sort (c.args.at + 1) _ c.requires.fits.guard)
 
 pub overflow_add-from-2 : goal.overflow_add-from-2
-overflow_add-from-2 c = omega (arith, here c.before.before.before.before.before, end c.before.before.before.before.before)
+overflow_add-from-2 c = omega (arith, fits_here c.args.file.now (c.args.at + 1) 16 truth_sort c.args.state c.requires.fits.guard, behind_within _ _ c.requires.spans truth_sort (c.args.at + 1) _ c.requires.fits.guard)
 
 pub updates-found-requires : goal.updates-found-requires
 updates-found-requires c = 

@@ -2,8 +2,9 @@
 --     number_kinds, truth_kinds     the kinds of the numbers and of the truths
 --     there, level                  the record is there, and a level is left
 --     one, two                      the operands fit, and the table has their lengths
+--     combined, divided, connected, compared     the same of two operands, by the kind of the record
 -- Assumes nothing.
-use mathlib.Core.Path.{◌≡◌, sym, ap, ◌∙◌}
+use mathlib.Core.Path.{◌≡◌, refl, sym, ap, ◌∙◌}
 use mathlib.Core.List.{List}
 use Prim.Native.Nat.{ℕ, suc, ◌+◌, ◌-◌, ◌*◌, ◌≤◌, ◌<◌}
 use native.Mathlib.Nat.{add-zero}
@@ -12,11 +13,12 @@ use lib.ListN.{length, get_or, drop, length-drop}
 use lib.Seq.{get_or-drop}
 use lib.IntN.{ℤ}
 use Rattle.records.specs.Form.{Form}
+use Rattle.records.specs.Form.Form.{Arithmetic, Division, Connective, Comparison}
 use Rattle.records.specs.Record.{kind_at}
-use Rattle.records.specs.Kind.{row, number as number_sort, truth as truth_sort}
+use Rattle.records.specs.Kind.{row, number as number_sort, truth as truth_sort, divisor as divisor_sort}
 use Rattle.records.specs.Form.{form_at, row_of}
 use Rattle.records.specs.Walk.{span}
-use Rattle.records.proofs.Laws.Kind.{number_range, truth_range}
+use Rattle.records.proofs.Laws.Kind.{number_range, truth_range, arithmetic_form, division_form, connective_form, comparison_form}
 use Rattle.expressions.specs.Expression.{part_at, first_operand, second_operand}
 use Rattle.expressions.specs.Spans.{Spans}
 use Rattle.expressions.specs.Fits.{Fits}
@@ -89,3 +91,21 @@ module _ (levels want : ℕ) (part table : List ℕ) (at : ℕ) (state : List �
           second = λ {q} d. second q d;
           right = λ {q} d. onward (1 + get_or table (at + 1) 0) d m below b (rw (second q d) both.1);
         }
+
+-- ---- two operands by the kind of the record
+module _ {levels : ℕ} {part table : List ℕ} {at : ℕ} {state : List ℤ} where
+  module _ (f : Fits levels number_sort part state) (r : 8 * at + length part ≤ 32768) (s : Spans part (drop at table)) {p : List ℕ}
+      (e : p ≡ part_at part 1) where
+    pub combined : 0x12 ≤ kind_at part 0 → kind_at part 0 ≤ 0x14 → Two levels number_sort number_sort Arithmetic part table at p state
+    combined l h = two _ _ _ _ _ _ (f, (r, s)) (arithmetic_form l h) e refl
+
+    pub divided : 0x18 ≤ kind_at part 0 → kind_at part 0 ≤ 0x19 → Two levels number_sort divisor_sort Division part table at p state
+    divided l h = two _ _ _ _ _ _ (f, (r, s)) (division_form l h) e refl
+
+  module _ (f : Fits levels truth_sort part state) (r : 8 * at + length part ≤ 32768) (s : Spans part (drop at table)) {p : List ℕ}
+      (e : p ≡ part_at part 1) where
+    pub connected : 0x23 ≤ kind_at part 0 → kind_at part 0 ≤ 0x26 → Two levels truth_sort truth_sort Connective part table at p state
+    connected l h = two _ _ _ _ _ _ (f, (r, s)) (connective_form l h) e refl
+
+    pub compared : 0x27 ≤ kind_at part 0 → Two levels number_sort number_sort Comparison part table at p state
+    compared l = two _ _ _ _ _ _ (f, (r, s)) (comparison_form l (truth_kinds levels part state f).1) e refl

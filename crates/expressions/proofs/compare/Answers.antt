@@ -1,4 +1,5 @@
 -- `expressions::compare`: the tests of the bits are those of the numbers. Assumes nothing.
+use native.Mathlib.Omega.{arith}
 use mir.Facts.{to_z-of_z}
 use borrow.Author.Tests.{ne_eqb}
 use Rattle.integers.proofs.Laws.Equality.{bits_equal}
@@ -15,5 +16,5 @@ returns-in-40 c = rw (to_z-of_z c.ranges.x, to_z-of_z c.ranges.y, c.in-40.is)
 
 pub returns-in_default : goal.returns-in_default
 unfolding compare_of
-returns-in_default c = rw
-    (to_z-of_z c.ranges.x, to_z-of_z c.ranges.y, ne_eqb c.args.kind 0x27 c.in_default.in_default-own.rest.0.1, ne_eqb c.args.kind 0x28 c.in_default.in_default-own.rest.1)
+returns-in_default c =
+    rw (to_z-of_z c.ranges.x, to_z-of_z c.ranges.y, ne_eqb c.args.kind 0x27 (λ e. omega arith), ne_eqb c.args.kind 0x28 (λ e. omega arith))

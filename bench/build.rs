@@ -1,4 +1,4 @@
-//! Links libvdloops.a beside the library, from the same folder: each has its exported functions and nothing else.
+//! Links libvdloops.a beside the library, from crates/vdloops/out or the folder that VDLIB_DIR names: each has its exported functions and nothing else.
 
 use std::env;
 use std::path::PathBuf;
@@ -8,7 +8,7 @@ fn main() {
     let folder = match env::var_os("VDLIB_DIR") {
         Some(folder) => PathBuf::from(folder),
         None => {
-            PathBuf::from(env::var_os("CARGO_MANIFEST_DIR").unwrap()).join("../target/staticlib")
+            PathBuf::from(env::var_os("CARGO_MANIFEST_DIR").unwrap()).join("../crates/vdloops/out")
         }
     };
     println!(

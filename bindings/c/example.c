@@ -1,6 +1,6 @@
 /* Checks the file on standard input and says what came out. The exit status is 0 for an accepted file, 1 for a refused one, 2 where it can't be read.
 
-       cc -I bindings/c bindings/c/example.c target/staticlib/libvdlib.a -o example
+       cc -I bindings/c bindings/c/example.c crates/vdlib/out/libvdlib.a -o example
        ./example < examples/b.vd */
 #include "vd.h"
 

@@ -1,4 +1,4 @@
-/* The verification diagram checker, proved in Rattle, for C (x86-64 Linux): link target/staticlib/libvdlib.a, which `rt staticlib vdlib` writes.
+/* The verification diagram checker, proved in Rattle, for C (x86-64 Linux): link crates/vdlib/out/libvdlib.a, which `rt lib` in crates/vdlib writes.
 
        uint8_t report[VD_REPORT];
        struct vd_verdict verdict = vd_check(file, length, report, sizeof report);

@@ -1,4 +1,4 @@
-//! Links libvdlib.a, which `rt staticlib vdlib` writes to target/staticlib; VDLIB_DIR may name another folder.
+//! Links libvdlib.a, which `rt lib` in crates/vdlib writes to crates/vdlib/out; VDLIB_DIR may name another folder.
 
 use std::env;
 use std::path::PathBuf;
@@ -9,7 +9,7 @@ fn main() {
     let folder = match env::var_os("VDLIB_DIR") {
         Some(folder) => PathBuf::from(folder),
         None => {
-            PathBuf::from(env::var_os("CARGO_MANIFEST_DIR").unwrap()).join("../../target/staticlib")
+            PathBuf::from(env::var_os("CARGO_MANIFEST_DIR").unwrap()).join("../../crates/vdlib/out")
         }
     };
     // rustc may run in another folder than this script: the path is made absolute.
@@ -17,7 +17,7 @@ fn main() {
         Ok(library) => library,
         Err(_) => {
             eprintln!(
-                "no libvdlib.a in {}: run `rt staticlib vdlib` in the repository, or set VDLIB_DIR",
+                "no libvdlib.a in {}: run `rt lib` in crates/vdlib of the repository, or set VDLIB_DIR",
                 folder.display()
             );
             exit(1);

@@ -1,7 +1,7 @@
 -- The words of C12.9 and C12.10 determine the verdict, on three files: with a weaker word another verdict would do, with a stronger one none.
---     refused-one      B with start true and node "v = 0", broken at several conditions and states: the first condition, its lowest state, the tests
+--     refused_one      B with start true and node "v = 0", broken at several conditions and states: the first condition, its lowest state, the tests
 --     counted          A, whose broken condition is behind others: the tests
---     accepted-one     B, accepted: the number and the tests
+--     accepted_one     B, accepted: the number and the tests
 -- Assumes nothing.
 use mathlib.Core.Path.{◌≡◌, refl, ap, ◌∙◌}
 use mathlib.Core.Bool.{false≢true}

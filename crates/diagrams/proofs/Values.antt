@@ -1,6 +1,6 @@
 -- The states of a file whose one variable v is in 0..2.
 --     v                     v is n
---     state, state-most     it is a state exactly if n is at most 2
+--     state, state_most     it is a state exactly if n is at most 2
 -- Assumes nothing.
 use mathlib.Core.List.{List, ◌∷◌}
 use Prim.Native.Nat.{ℕ, zero, suc, ◌≤◌, zero-le}

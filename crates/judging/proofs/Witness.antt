@@ -1,9 +1,9 @@
 -- Nothing is claimed of an empty set: for each of the three claims (C7.1, C7.3, C7.5) an accepted file (B, H and D of C16.1) that makes it, with a run that
 -- the claim speaks of: from a starting state unless said otherwise, and it idles and moves.
---     invariance-met     B: a finite run
---     wait-for-met       H: an endless run from a state where p holds, and q_0 does not hold at the four positions from there on
---     chain-met          D, whose step is just: an endless run, 2-just and just, from a state where p holds; q holds 2 × 2 steps on, and not before
---     chain-met-late     the same from v = 1, which is no starting state; q holds 1 × 2 steps on, and not before
+--     invariance_met     B: a finite run
+--     wait_for_met       H: an endless run from a state where p holds, and q_0 does not hold at the four positions from there on
+--     chain_met          D, whose step is just: an endless run, 2-just and just, from a state where p holds; q holds 2 × 2 steps on, and not before
+--     chain_met_late     the same from v = 1, which is no starting state; q holds 1 × 2 steps on, and not before
 -- Assumes nothing.
 use mathlib.Core.Path.{◌≡◌, refl}
 use mathlib.Core.Logic.{inl, inr}

@@ -1,5 +1,6 @@
 -- What the program prints.
-use Rattle.std.specs.Prelude.{ℕ, ◌+◌, ◌/◌, ◌%◌, ◌≡◌, cond, List, [], ◌∷◌, ◌++◌, ltb, replicate}
+use Rattle.std.specs.Prelude.{ℕ, ◌+◌, ◌/◌, ◌%◌, ◌≡◌, Bool, cond, List, [], ◌∷◌, ◌++◌, ltb, replicate}
+use Rattle.std.specs.Fmt.{decimal}
 use Rattle.verdicts.specs.Verdict.{check_of}
 use Rattle.report.specs.Report.{report_of}
 
@@ -23,3 +24,7 @@ printed_of file = line_of (report_of (check_of file 32) (replicate 32 0))
 -- C15.2: --tests, in ASCII, is the one argument; `count` counts the program's name too
 abbrev pub TestsAsked : ℕ → List ℕ → Type 0
 TestsAsked count argument = (count ≡ 2) × (argument ≡ 45 ∷ 45 ∷ 116 ∷ 101 ∷ 115 ∷ 116 ∷ 115 ∷ [])
+
+-- C15.8: what is printed: the line, and if asked the tests in decimal on a second one
+abbrev pub output_of : List ℕ → ℕ → Bool → List ℕ
+output_of line tests asked = cond asked (line ++ (decimal tests ++ (10 ∷ []))) line

@@ -1,12 +1,12 @@
 -- Laws of boxes and their halves.
 --     whole                       the ranges are a part of themselves
---     part-inside, low-inside     a part has only states of the whole, and its low ends are one
+--     part_inside, low_inside     a part has only states of the whole, and its low ends are one
 --     part_length                 it has as many variables
 --     single                      a box with no wide variable has one state
---     first-wide                  the first wide variable is wide
---     chosen-wide                 so is the one chosen
---     lower-part, upper-part      the halves are parts
---     in-half                     a state of the box lies in one of them
+--     first_wide_lem                  the first wide variable is wide
+--     chosen_wide                 so is the one chosen
+--     lower_part, upper_part      the halves are parts
+--     in_half                     a state of the box lies in one of them
 -- Assumes nothing.
 use mathlib.Core.Path.{◌≡◌, refl, ap}
 use mathlib.Core.Bool.{cond, ◌&&◌, and-eq-true_iff}

@@ -1,8 +1,8 @@
 -- Laws of halving a box at its first wide variable: what lies before it in the order of the states' numbers.
---     slab-whole                the ranges are a slab
---     slab-lower, slab-upper    the halves of a slab are slabs
---     lower-begin               the lower half begins where the box does
---     slab-before               a state with a number below those of the upper half is one below the slab's, or one of the lower half
+--     slab_whole                the ranges are a slab
+--     slab_lower, slab_upper    the halves of a slab are slabs
+--     lower_begin               the lower half begins where the box does
+--     slab_before               a state with a number below those of the upper half is one below the slab's, or one of the lower half
 -- Assumes nothing.
 use mathlib.Core.Path.{◌≡◌, refl}
 use mathlib.Core.Bool.{true, false}

@@ -1,13 +1,13 @@
 -- Laws of the list of conditions.
---     position-enabling, position-before, position-after     the conditions of a node by their positions: enabling, and the pairs around it
---     layout-bounds               the layout stays within the limits
---     total-is, total-most        how many conditions there are, by the layout; at most 2,081
---     total-invariance, total-wait-for, total-chain          how many, by claim (C8.15)
---     condition-opening, condition-cover, condition-move     the condition of a number, by the layout
---     condition-listed, listed-number     a number below the total has a condition of the list, and a condition of the list has such a number (C8.3)
---     listed-parts                what a listed condition speaks of is there
---     names-small                 the numbers in its name are of one byte
---     refusal-above               a broken condition's number of refusal is 13 or more
+--     position_enabling, position_before, position_after     the conditions of a node by their positions: enabling, and the pairs around it
+--     layout_bounds               the layout stays within the limits
+--     total_is, total_most        how many conditions there are, by the layout; at most 2,081
+--     total_invariance, total_wait_for, total_chain          how many, by claim (C8.15)
+--     condition_opening, condition_cover, condition_move     the condition of a number, by the layout
+--     condition_listed, listed_number     a number below the total has a condition of the list, and a condition of the list has such a number (C8.3)
+--     listed_parts                what a listed condition speaks of is there
+--     names_small                 the numbers in its name are of one byte
+--     refusal_above               a broken condition's number of refusal is 13 or more
 -- Assumes nothing.
 use mathlib.Core.Path.{◌≡◌, refl, sym, ap, ap₂, ◌∙◌}
 use mathlib.Core.Logic.{◌⊎◌, inl, inr}

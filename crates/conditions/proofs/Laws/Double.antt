@@ -1,10 +1,10 @@
 -- Laws of the edges that carry a transition from a node, and of the double transition of a node.
---     carries-parts               an edge carries a transition from a node exactly if it leads from that node and is one of that transition
---     carries-not, carries-rest   the same, by the node first
---     double-edge, edge-double    a transition leaves a node by double edges exactly if there is such an edge
---     double-is                   it is then the node's double transition
---     double-some, double-none    where edges may be double each node that edges lead from has one; else no node has
---     double-most                 it is at most one past the file's transitions
+--     carries_parts               an edge carries a transition from a node exactly if it leads from that node and is one of that transition
+--     carries_not, carries_rest   the same, by the node first
+--     double_edge_lem, edge_double    a transition leaves a node by double edges exactly if there is such an edge
+--     double_is                   it is then the node's double transition
+--     double_some, double_none    where edges may be double each node that edges lead from has one; else no node has
+--     double_most                 it is at most one past the file's transitions
 -- Assumes nothing.
 use mathlib.Core.Path.{◌≡◌, refl, sym, ◌∙◌}
 use mathlib.Core.Logic.{◌⊎◌, inl, inr}

@@ -1,9 +1,9 @@
 -- Laws of lists that are put together by number.
 --     each_none, each_more    of no number, and of one number more
 --     each_same               lists that agree at each number agree
---     each-length, each_at    blocks of one size: an element is found by a quotient and a remainder
---     each_in, in-each        an element stands in the list of some number, and what stands there is an element
---     at_in, member-at        what is found at an index is an element, and an element stands at one
+--     each_length, each_at    blocks of one size: an element is found by a quotient and a remainder
+--     each_in, in_each        an element stands in the list of some number, and what stands there is an element
+--     at_in, member_at        what is found at an index is an element, and an element stands at one
 -- Assumes nothing.
 use mathlib.Core.Path.{◌≡◌, refl, sym, ap, ap₂, ◌∙◌}
 use mathlib.Core.Logic.{◌⊎◌, inl, inr}

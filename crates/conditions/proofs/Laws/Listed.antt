@@ -1,8 +1,8 @@
 -- Which conditions are listed.
---     opening-in, cover-in, range-in, step_in                  the opening, the covers, and those of each node from the row's first on (C8.4 to C8.6)
---     enabling-in                                              and of its double transition, if it has one (C8.6)
---     start-in, entry_in                                       the opening, by the row
---     covered-in, goal-in                                      the cover of each node, where each is covered; that of node 0 always
+--     opening_in, cover_in, range_in_lem, step_in                  the opening, the covers, and those of each node from the row's first on (C8.4 to C8.6)
+--     enabling_in                                              and of its double transition, if it has one (C8.6)
+--     start_in, entry_in                                       the opening, by the row
+--     covered_in, goal_in                                      the cover of each node, where each is covered; that of node 0 always
 -- Assumes nothing.
 use mathlib.Core.Path.{◌≡◌, refl, subst}
 use mathlib.Core.Bool.{Bool, true, false, cond}

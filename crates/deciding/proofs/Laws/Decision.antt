@@ -1,11 +1,11 @@
 -- What the verdict on a readable file decides.
 --     number_is                            equal verdicts have one number
---     true-everywhere, everywhere-true     a condition is true exactly if it holds at each state, by its values (C8.14)
+--     true_everywhere, everywhere_true     a condition is true exactly if it holds at each state, by its values (C8.14)
 --     accepted, accepts                    number 0 says that every condition holds at every state; where all do, the verdict is 0 with the total (C12.2)
 --     refused                              any other number names the first condition that is not true, with the lowest state that breaks it (C12.3 to C12.5)
---     judged-tests                         the tests of a verdict are as many as are made one after the other up to the first that fails (C12.7, C12.10)
+--     judged_tests                         the tests of a verdict are as many as are made one after the other up to the first that fails (C12.7, C12.10)
 --     judges                               all of it (C12.9)
---     named-once                           two verdicts that name a condition of a file name the same one, with the same state (C12.12)
+--     named_once                           two verdicts that name a condition of a file name the same one, with the same state (C12.12)
 -- Assumes nothing.
 use mathlib.Core.Path.{◌≡◌, refl, sym, ap, ◌∙◌}
 use mathlib.Core.Logic.{◌⊎◌, inl, inr}

@@ -1,6 +1,6 @@
 -- Laws of the tests made, one after the other up to the first that fails.
---     made-whole      where all pass, all are made: as many as conditions times states
---     made-broken     where test n of condition k fails and all before it pass, k times the states and n + 1
+--     made_whole      where all pass, all are made: as many as conditions times states
+--     made_broken     where test n of condition k fails and all before it pass, k times the states and n + 1
 -- Assumes nothing.
 use mathlib.Core.Path.{◌≡◌, refl, sym, ap, ◌∙◌}
 use mathlib.Core.Bool.{Bool, true, false}

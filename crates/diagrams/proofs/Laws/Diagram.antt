@@ -1,11 +1,11 @@
 -- What is known of a file with diagram g.
---     found-read                           reading found its parts
---     find-refuses                         or refused the file, with a number of 2 or more and a small place (C11.7)
---     diagram-loaded                       a file whose parts are found has a diagram
---     loaded-once                          and it is the only one
+--     found_read                           reading found its parts
+--     find_refuses                         or refused the file, with a number of 2 or more and a small place (C11.7)
+--     diagram_loaded                       a file whose parts are found has a diagram
+--     loaded_once                          and it is the only one
 --     promised                             all that is promised of it
---     state-at                             the state of a number, by the ranges (C4.4)
---     state-numbered, number-state         each number below that of the states has a state, and each state such a number (C4.5)
+--     state_at_lem                             the state of a number, by the ranges (C4.4)
+--     state_numbered, number_state         each number below that of the states has a state, and each state such a number (C4.5)
 -- Assumes nothing.
 use mathlib.Core.Path.{◌≡◌, refl, sym, ap, subst, ◌∙◌}
 use mathlib.Core.Bool.{Bool, true, false, cond}

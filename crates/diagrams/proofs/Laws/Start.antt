@@ -1,8 +1,8 @@
 -- Laws of refusal 20.
---     starts-any                        whether one of the states, by their numbers, satisfies the start
---     starts-some, some-starts          it does not apply exactly if a state satisfies the start, by its values (C10.20)
---     readable-starting, starting-readable     so a file whose parts are found is readable exactly if it has a starting state (C11.6)
---     start-follows, start-refused      what comes next is then the answer; else 20 is
+--     starts_any                        whether one of the states, by their numbers, satisfies the start
+--     starts_some, some_starts          it does not apply exactly if a state satisfies the start, by its values (C10.20)
+--     readable_starting, starting_readable     so a file whose parts are found is readable exactly if it has a starting state (C11.6)
+--     start_follows, start_refused      what comes next is then the answer; else 20 is
 -- Assumes nothing.
 use mathlib.Core.Path.{◌≡◌, refl}
 use mathlib.Core.Bool.{true, false}

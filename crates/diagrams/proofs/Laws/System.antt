@@ -1,11 +1,11 @@
 -- Laws of the transitions of a file with diagram g.
---     guard-at, values-at, enabled-at, next-at     what a transition does, by where it stands
---     enabled-and             a transition is enabled where its guard is true and each value is in range (C5.2)
---     successor-enabled       one that has a successor is enabled
---     successor-some          and one that is enabled has one
---     successor-state         a successor is a state (C5.4)
---     successors-ascend       they are listed by their numbers, none twice (C5.6)
---     successor-value, successor-rest, successor-any     a successor has values of the updates, and the others as they were; whatever has, is one (C5.3)
+--     guard_at, values_at, enabled_at, next_at     what a transition does, by where it stands
+--     enabled_and             a transition is enabled where its guard is true and each value is in range (C5.2)
+--     successor_enabled       one that has a successor is enabled
+--     successor_some          and one that is enabled has one
+--     successor_state         a successor is a state (C5.4)
+--     successors_ascend       they are listed by their numbers, none twice (C5.6)
+--     successor_value, successor_rest, successor_any     a successor has values of the updates, and the others as they were; whatever has, is one (C5.3)
 -- Assumes nothing.
 use mathlib.Core.Path.{◌≡◌, refl, sym, subst, ◌∙◌}
 use mathlib.Core.Bool.{true, ◌&&◌}

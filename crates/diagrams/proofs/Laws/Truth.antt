@@ -1,6 +1,6 @@
 -- Where the truths of a diagram stand: each holds where the expression there does.
---     start-at, node_at, p-at, q-at     the start, a node, p, a node's q
---     q-only                            every node's q is the first, where there is one q (C8.9)
+--     start_at, node_at, p_at, q_at_lem     the start, a node, p, a node's q
+--     q_only                            every node's q is the first, where there is one q (C8.9)
 -- Assumes nothing.
 use mathlib.Core.Path.{◌≡◌, refl}
 use mathlib.Core.List.{List}

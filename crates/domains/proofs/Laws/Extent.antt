@@ -1,10 +1,10 @@
 -- Laws of extents: a number in bounds lies in its extent.
 --     cut_low, cut_high                                      a number that is cut to a range is no worse an end of what lies in the range
---     cut-in, cut_fits                                       it lies in the range, and is as small as the range's ends
---     extent-bounded, combine-bounded, divide-bounded, indicator-bounded     an extent lies in bounds
---     extent-in                                              a number between the ends given lies in it
---     combine-in-extent, divide-in-extent, indicator-in-extent               arithmetic, quotients and remainders, and indicators lie in theirs
---     at-most-says, compare-says                             what the extents' ends say of two numbers
+--     cut_in_lem, cut_fits                                       it lies in the range, and is as small as the range's ends
+--     extent_bounded, combine_bounded, divide_bounded, indicator_bounded     an extent lies in bounds
+--     extent_in                                              a number between the ends given lies in it
+--     combine_in_extent, divide_in_extent, indicator_in_extent               arithmetic, quotients and remainders, and indicators lie in theirs
+--     at_most_says, compare_says                             what the extents' ends say of two numbers
 -- Assumes nothing.
 use mathlib.Core.Path.{◌≡◌, refl, sym}
 use mathlib.Core.Bool.{Bool, true, false, true≢false, not, cond, ◌&&◌}

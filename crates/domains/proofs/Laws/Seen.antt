@@ -1,15 +1,15 @@
 -- Laws of what is seen of truths: it says of what a connective makes of them what the connective makes of what is seen.
---     opposite-says, both-says, either-says, implies-says, implied-says     not, and, or, implies
---     both-asked                                              and, where the right one is asked only behind a true left one
---     alike-says, all-pass-says                                   of several truths of which the same is seen
---     connect-says, literal-says                              a connective by its kind; true and false
---     literal-true, literal-false                             what is seen of these by their kinds
+--     opposite_says, both_says, either_says, implies_says, implied_says     not, and, or, implies
+--     both_asked                                              and, where the right one is asked only behind a true left one
+--     alike_says, all_pass_says                                   of several truths of which the same is seen
+--     connect_says, literal_says                              a connective by its kind; true and false
+--     literal_true, literal_false                             what is seen of these by their kinds
 --     decided                                                 the right operand doesn't count where the left one decides
 --     never_true                                              what is true is not seen never to be
---     never-implies, never-implied, sure-either               what is seen of one operand is enough
---     either-none, none-either, either-assoc                  or, of none and of several
---     yes-says, no_says                                       what is seen for sure is so
---     says-yes, says-no                                       what is so may be seen for sure
+--     never_implies, never_implied, sure_either               what is seen of one operand is enough
+--     either_none, none_either, either_assoc                  or, of none and of several
+--     yes_says, no_says                                       what is seen for sure is so
+--     says_yes, says_no                                       what is so may be seen for sure
 -- Assumes nothing.
 use mathlib.Core.Path.{◌≡◌, refl, ap}
 use mathlib.Core.Bool.{Bool, true, false, not, cond, ◌&&◌, ◌||◌, beq, true≢false, or_comm, and-eq-true_iff}

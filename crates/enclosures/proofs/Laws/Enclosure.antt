@@ -1,10 +1,10 @@
 -- What is known of an expression on a box is so in each of its states where the expression fits.
---     number-in-opens, truth-in-opens     it comes from what is known of the operands
---     number-bounded                      an extent lies in bounds
---     number-inside                       a number lies in its extent
---     truth-said                          a truth is what is said of it
+--     number_in_opens, truth_in_opens     it comes from what is known of the operands
+--     number_bounded                      an extent lies in bounds
+--     number_inside                       a number lies in its extent
+--     truth_said                          a truth is what is said of it
 --     yes_true, no_false                  so what is seen to hold is true, and what is seen not to hold is false
---     seen-said                           the same of a truth expression of a file
+--     seen_said                           the same of a truth expression of a file
 -- Assumes nothing.
 use mathlib.Core.Path.{◌≡◌, refl}
 use mathlib.Core.List.{List}

@@ -1,7 +1,7 @@
 -- How many successors a transition of a readable file has. They are the states between two ends, which begin as the state itself; each update sets one
 -- variable more in both, where they are still alike since none is set twice, and so makes of each state between them at most as many as it has values.
---     ends-most                            between the ends of a transition lie at most 4,096 states
---     successors-least, successors-most    it has at least 1 successor where it is enabled, and at most 4,096 in any state (C5.7)
+--     ends_most                            between the ends of a transition lie at most 4,096 states
+--     successors_least, successors_most    it has at least 1 successor where it is enabled, and at most 4,096 in any state (C5.7)
 -- Assumes nothing.
 use mathlib.Core.Path.{◌≡◌, refl, sym, ap₂}
 use mathlib.Core.Bool.{true}

@@ -1,15 +1,15 @@
 -- What is known of a readable file and of its states: the page that judging cites. Each law follows from the answer of `read` alone.
 --     ranges                                       no range is empty
---     states-within                                there are at least 1 and at most 1,048,576 states (C10.7)
+--     states_within                                there are at least 1 and at most 1,048,576 states (C10.7)
 --     numbered, number                             each number below that has a state, and each state such a number: they determine each other (C4.5)
---     state-zero, next                             the first state, and the move forward from any but the last to the one numbered one higher (C4.4, C4.6)
---     start_fits, claimed-fits, assertion-fits     in every state the start, each expression of the property and each node's assertion can be evaluated
---     transition-fits                              so can each transition's guard and updates
---     number-lies                                  and each number in them is worth something in its interval (C3.6)
---     updates-all                                  its updates are all that reading found, each with its variable and its values in the state (C5.1)
---     updates-variables, updates-once              they set the variables that reading lists, none twice (C1.17)
---     successor-value, successor-rest              a successor has values of its updates, and the others as they were
---     successor-any                                and whatever has, is one
+--     state_zero, next                             the first state, and the move forward from any but the last to the one numbered one higher (C4.4, C4.6)
+--     start_fits, claimed_fits, assertion_fits     in every state the start, each expression of the property and each node's assertion can be evaluated
+--     transition_fits                              so can each transition's guard and updates
+--     number_lies                                  and each number in them is worth something in its interval (C3.6)
+--     updates_all                                  its updates are all that reading found, each with its variable and its values in the state (C5.1)
+--     updates_variables, updates_once              they set the variables that reading lists, none twice (C1.17)
+--     successor_value, successor_rest              a successor has values of its updates, and the others as they were
+--     successor_any                                and whatever has, is one
 -- Assumes nothing.
 use mathlib.Core.Path.{◌≡◌, refl, sym, ◌∙◌}
 use mathlib.Core.Logic.{⊎_elim}

@@ -1,14 +1,14 @@
 -- Laws of a transition at a state, and of what a step answers.
---     guard-holds                  the guard is the truth behind the transition's record
---     enabled-and, enabled-both    it is enabled where its guard is true and each value that it assigns is in range
---     lowest-is, highest-is        the ends between which its successors lie
---     successors-between, successors-none      where it is enabled they are the states between these ends; else there are none
---     ends-ranges                  there is a state between the ends of a transition that fits
---     successor-member, member-successor       of an enabled transition that fits: a state between the ends is a successor, and each successor is one
---     successor-enabled            a transition that has a successor is enabled
---     successor-state              a successor is a state
---     step-guard, step-enabled     a step says whether the guard is true, and whether the transition is enabled
---     step-low, step-high          where it is, the ends between which its successors lie
+--     guard_holds_lem                  the guard is the truth behind the transition's record
+--     enabled_and, enabled_both    it is enabled where its guard is true and each value that it assigns is in range
+--     lowest_is, highest_is        the ends between which its successors lie
+--     successors_between, successors_none      where it is enabled they are the states between these ends; else there are none
+--     ends_ranges                  there is a state between the ends of a transition that fits
+--     successor_member, member_successor       of an enabled transition that fits: a state between the ends is a successor, and each successor is one
+--     successor_enabled            a transition that has a successor is enabled
+--     successor_state              a successor is a state
+--     step_guard, step_enabled     a step says whether the guard is true, and whether the transition is enabled
+--     step_low, step_high          where it is, the ends between which its successors lie
 -- Assumes nothing.
 use mathlib.Core.Path.{◌≡◌, refl, sym, ap, subst, ◌∙◌}
 use mathlib.Core.Bool.{true, false, ◌&&◌, and-eq-true_iff}

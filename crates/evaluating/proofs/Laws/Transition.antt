@@ -1,17 +1,17 @@
 -- Laws of what a transition does.
---     in-range-both, in-range-ends                a value in range lies between the range's ends
---     range_none, range-more                      whether all values lie in range, of none and of one more
---     updated_none, updated-more                  the values that are made, of none and of one more
---     lowest-within, highest-within               values in range make states of a state, of the lowest and of the highest
---     between-ranges                              the lowest is nowhere above the highest
---     pick_is, assignment-is, end-alike           the update at a record, by its kind; where it ends doesn't depend on the state
---     list-end, list-none, list-more              the updates from a record on: none are left, the record is none, one more
---     list-from                                   those of a transition begin behind its guard
---     fits_more, list-ordered                     an update of a transition that fits, and those behind it; the values of each are in order
---     updated-value, updated-rest                 the values of what is set, and the others as they were, where no variable is set twice
---     set-or-not, updated-length                  each variable is set, or it isn't; none is added
---     found-is, list-found                        the updates from a record on are those that reading found there
---     found-variables, found-once, found-named    those are of the variables that reading lists, none twice, each of them the file's
+--     in_range_both, in_range_ends                a value in range lies between the range's ends
+--     range_none, range_more                      whether all values lie in range, of none and of one more
+--     updated_none, updated_more                  the values that are made, of none and of one more
+--     lowest_within, highest_within               values in range make states of a state, of the lowest and of the highest
+--     between_ranges                              the lowest is nowhere above the highest
+--     pick_is, assignment_is, end_alike           the update at a record, by its kind; where it ends doesn't depend on the state
+--     list_end, list_none, list_more              the updates from a record on: none are left, the record is none, one more
+--     list_from                                   those of a transition begin behind its guard
+--     fits_more, list_ordered                     an update of a transition that fits, and those behind it; the values of each are in order
+--     updated_value, updated_rest                 the values of what is set, and the others as they were, where no variable is set twice
+--     set_or_not, updated_length                  each variable is set, or it isn't; none is added
+--     found_is, list_found                        the updates from a record on are those that reading found there
+--     found_variables, found_once, found_named    those are of the variables that reading lists, none twice, each of them the file's
 -- Assumes nothing.
 use mathlib.Core.Path.{◌≡◌, refl, sym, ap, subst, ◌∙◌}
 use mathlib.Core.List.{List, [], ◌∷◌, map}

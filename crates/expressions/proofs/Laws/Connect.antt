@@ -1,6 +1,6 @@
 -- Laws of what one record makes of its operands, by its kind.
---     indicator-true, indicator-false     1 if true, else 0
---     connect-by, compare-by              what is so of each connective, of each comparison by its kind, is so of any
+--     indicator_true, indicator_false     1 if true, else 0
+--     connect_by, compare_by              what is so of each connective, of each comparison by its kind, is so of any
 -- Assumes nothing.
 use mathlib.Core.Path.{◌≡◌, refl}
 use mathlib.Core.Bool.{Bool, true, false, not, cond, ◌&&◌, ◌||◌, beq}

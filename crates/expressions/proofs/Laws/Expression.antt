@@ -1,13 +1,13 @@
 -- Laws of what an expression is worth, by the form of its record, one level further in for its operands.
---     first-is, second_is                                     the parts of the operands
---     number-constant, number-variable, number-arithmetic, number-indicator     a number of each form (C2.3 to C2.6)
---     number-division                                         and a quotient or remainder (C2.14)
---     truth-literal, truth-negation, truth-connective, truth-comparison         a truth of each form (C2.7 to C2.10)
---     holds-is                                                a truth expression of a file
---     fits-level, fits-record, fits-small                     an expression that fits has a level and a record that fits, and a number is small
---     fits-opens, fits_one, fits-two                          its operands fit
---     divisor-above, divisor-worth                            a divisor is above 0, and worth its own value
---     fits-within, fits-here                                  all its records are there
+--     first_is, second_is                                     the parts of the operands
+--     number_constant, number_variable, number_arithmetic, number_indicator     a number of each form (C2.3 to C2.6)
+--     number_division                                         and a quotient or remainder (C2.14)
+--     truth_literal, truth_negation, truth_connective, truth_comparison         a truth of each form (C2.7 to C2.10)
+--     holds_is                                                a truth expression of a file
+--     fits_level, fits_record, fits_small                     an expression that fits has a level and a record that fits, and a number is small
+--     fits_opens, fits_one, fits_two                          its operands fit
+--     divisor_above, divisor_worth                            a divisor is above 0, and worth its own value
+--     fits_within, fits_here                                  all its records are there
 -- Assumes nothing.
 use mathlib.Core.Path.{◌≡◌, refl, ◌∙◌}
 use mathlib.Core.List.{List}

@@ -1,6 +1,6 @@
 -- What an expression is worth in a state depends on its own records alone: where they are copied, the copy is worth the same.
---     number-local, truth-local     a number and a truth (C2.13)
---     holds-local                   whether a truth of a file holds (C2.13)
+--     number_local, truth_local     a number and a truth (C2.13)
+--     holds_local                   whether a truth of a file holds (C2.13)
 -- Assumes nothing.
 use mathlib.Core.Path.{◌≡◌, refl, sym, ap, ◌∙◌}
 use mathlib.Core.List.{List}

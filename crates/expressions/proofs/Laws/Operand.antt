@@ -1,5 +1,5 @@
 -- What an expression that fits has at its first record, and what the evaluators may ask of its operands.
---     number-kinds, truth-kinds     the kinds of the numbers and of the truths
+--     number_kinds, truth_kinds     the kinds of the numbers and of the truths
 --     there, level                  the record is there, and a level is left
 --     one, two                      the operands fit, and the table has their lengths
 --     combined, divided, connected, compared     the same of two operands, by the kind of the record

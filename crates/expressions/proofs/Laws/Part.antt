@@ -1,8 +1,8 @@
 -- Parts of a file, lent from a record on, with its table.
 --     take_rest                      a part that is lent runs to the end
 --     lent, entry                    the expression at a record may be handed on, and the table has an entry for it
---     behind-is, behind-within       the table says where it ends
---     behind-end                     that is where it ends in a readable file
+--     behind_is, behind_within       the table says where it ends
+--     behind_end                     that is where it ends in a readable file
 -- Assumes nothing.
 use mathlib.Core.Path.{◌≡◌, sym}
 use mathlib.Core.List.{List}

@@ -1,7 +1,7 @@
 -- Intervals are sound: in a state whose values lie in the ranges, an expression of a readable file fits, and a number lies in its interval.
---     expression-fits               it fits: its records are there, their kinds fit, every number is small, and no divisor is below 1
+--     expression_fits               it fits: its records are there, their kinds fit, every number is small, and no divisor is below 1
 --     number_in                     a number lies in its interval, a divisor too
---     indicator-in, constant-in     indicators and constants lie in theirs
+--     indicator_in_lem, constant_in     indicators and constants lie in theirs
 -- Assumes nothing.
 use mathlib.Core.Path.{◌≡◌, refl, sym, ap, ◌∙◌}
 use mathlib.Core.List.{List}

@@ -1,9 +1,9 @@
 -- Laws of the table of how many records each expression has.
---     zeros-behind     an entry beyond a table is zero, so zeros behind it change none
---     spans-entry      each entry is right, and there are as many records
---     spans-right      the table of a file is right wherever an expression begins
---     spans-part       the table of a part's rest is the rest of the table
---     spans-from       the same of a part that begins at a record of the table's file
+--     zeros_behind     an entry beyond a table is zero, so zeros behind it change none
+--     spans_entry      each entry is right, and there are as many records
+--     spans_right      the table of a file is right wherever an expression begins
+--     spans_part       the table of a part's rest is the rest of the table
+--     spans_from_lem       the same of a part that begins at a record of the table's file
 -- Assumes nothing.
 use mathlib.Core.Path.{◌≡◌, refl}
 use mathlib.Core.List.{List, [], ◌∷◌, ◌++◌}

@@ -1,12 +1,12 @@
 -- Laws of what one record makes of its fields and of its operands.
---     leaf-constant, leaf-variable                          the own interval of a record without operands, by its form (C3.1)
---     join-arithmetic, join-division                        and of one with two (C3.3, C3.7)
---     combine-sum, combine-difference, combine-product      what each kind of arithmetic combines by
---     combine-in                                            a number combined of two lies in the interval over the ends of theirs
---     divisor-is                                            the divisor, from its interval
---     divide-by                                             what is so of a quotient and of a remainder is so of either by its kind
---     quotient-ends, remainder-ends, remainder-below        between which numbers they lie
---     divide-in                                             so each lies in its interval
+--     leaf_constant, leaf_variable                          the own interval of a record without operands, by its form (C3.1)
+--     join_arithmetic, join_division                        and of one with two (C3.3, C3.7)
+--     combine_sum, combine_difference, combine_product      what each kind of arithmetic combines by
+--     combine_in_lem                                            a number combined of two lies in the interval over the ends of theirs
+--     divisor_is                                            the divisor, from its interval
+--     divide_by                                             what is so of a quotient and of a remainder is so of either by its kind
+--     quotient_ends, remainder_ends, remainder_below        between which numbers they lie
+--     divide_in_lem                                             so each lies in its interval
 -- Assumes nothing.
 use mathlib.Core.Path.{◌≡◌, refl}
 use mathlib.Core.Bool.{true, false, cond, and-false}

@@ -1,10 +1,10 @@
 -- Laws of an expression of a readable file.
---     expression-opens     its own record and its operands, one level further in: for an induction over expressions (C3.6)
---     expression-deepest   with no level left there is none
---     expression-bounded   its interval lies in -1,000,000..1,000,000
---     expression-within    it ends behind its first record and within the file
---     expression-span      it ends behind as many records as its span
---     expression-divisor   where a divisor is asked it is a constant above 0, and its interval holds that alone (C2.15)
+--     expression_opens     its own record and its operands, one level further in: for an induction over expressions (C3.6)
+--     expression_deepest   with no level left there is none
+--     expression_bounded   its interval lies in -1,000,000..1,000,000
+--     expression_within    it ends behind its first record and within the file
+--     expression_span      it ends behind as many records as its span
+--     expression_divisor   where a divisor is asked it is a constant above 0, and its interval holds that alone (C2.15)
 -- Assumes nothing.
 use mathlib.Core.Path.{◌≡◌, refl}
 use mathlib.Core.List.{List}

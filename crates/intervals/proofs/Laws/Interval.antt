@@ -1,9 +1,9 @@
 -- Laws of the analysis of an expression.
---     analysis-opens     where an interval that is answered comes from
---     analysis-bounded   it lies in -1,000,000..1,000,000 (C3.4)
---     analysis-span      the end that is answered is where the expression ends
---     analysis-walk      so it is where the walk ends
---     analysis-ahead, analysis-within     it lies behind the first record and within the file
+--     analysis_opens     where an interval that is answered comes from
+--     analysis_bounded   it lies in -1,000,000..1,000,000 (C3.4)
+--     analysis_span      the end that is answered is where the expression ends
+--     analysis_walk      so it is where the walk ends
+--     analysis_ahead, analysis_within     it lies behind the first record and within the file
 -- Assumes nothing.
 use mathlib.Core.Path.{◌≡◌, refl, ap, subst, ◌∙◌}
 use mathlib.Core.Bool.{Bool, true, false, cond}

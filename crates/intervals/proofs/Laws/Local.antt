@@ -1,6 +1,6 @@
 -- An expression's interval depends on its own records and on those of the variables alone: where they are copied, the copy has the same one.
---     analysis-local       the copy's interval, and where it ends
---     expression-local     so the copy is an expression of its file
+--     analysis_local       the copy's interval, and where it ends
+--     expression_local     so the copy is an expression of its file
 -- Assumes nothing.
 use mathlib.Core.Path.{◌≡◌, refl, sym, ap}
 use mathlib.Core.Bool.{cond}

@@ -1,7 +1,7 @@
 -- What goes out of bounds, and where.
---     out-opens             an expression that goes out: its own record does, once its operands are judged, or an operand
---     out-place             the record that goes out is one of the file, or the record count
---     refused-intervals     so is the place of refusal 8, the only one of the scan
+--     out_opens             an expression that goes out: its own record does, once its operands are judged, or an operand
+--     out_place             the record that goes out is one of the file, or the record count
+--     refused_intervals     so is the place of refusal 8, the only one of the scan
 -- Assumes nothing.
 use mathlib.Core.Path.{◌≡◌, refl, sym, ◌∙◌}
 use mathlib.Core.Bool.{Bool, true, false, cond, false≢true}

@@ -1,9 +1,9 @@
 -- The scan of refusal 8, followed from record to record: what is left of it decides for the whole file.
 --     scan_begins            at the first record all of it is left
---     scan-over              behind the last record it ends
---     scan-skip, scan-head   a record that begins no expression, such as the first of a section's item, is passed over
---     scan-out, scan-next    an expression that goes out is refused; behind one that stays within the scan goes on
---     scan-expression        one of the two holds of an expression that walks to its end
+--     scan_over              behind the last record it ends
+--     scan_skip, scan_head   a record that begins no expression, such as the first of a section's item, is passed over
+--     scan_out, scan_next    an expression that goes out is refused; behind one that stays within the scan goes on
+--     scan_expression        one of the two holds of an expression that walks to its end
 -- Assumes nothing.
 use mathlib.Core.Path.{◌≡◌, refl, sym, ◌∙◌}
 use mathlib.Core.Bool.{true}

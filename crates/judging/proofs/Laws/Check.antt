@@ -1,10 +1,10 @@
 -- What the check promises beyond its definition, on one page. That every call ends in an answer (C12.8) is what its contract means.
---     report-long                 a buffer of 32 bytes or more changes in its first 32 only (`report_short` for others: Laws/Report) (C14.6)
---     read-or-not                 a file is readable, and judged by its conditions, or refused before them, with a number of 2 or more and a small
+--     report_long                 a buffer of 32 bytes or more changes in its first 32 only (`report_short` for others: Laws/Report) (C14.6)
+--     read_or_not                 a file is readable, and judged by its conditions, or refused before them, with a number of 2 or more and a small
 --                                 place (C11.7)
---     check-decides               with room for a report, a readable file is accepted exactly if each condition holds in every state; otherwise
+--     check_decides               with room for a report, a readable file is accepted exactly if each condition holds in every state; otherwise
 --                                 the first untrue condition is named with the lowest-numbered state that breaks it; the tests made (C12.9, C12.10)
---     check-claims                what an accepted file claims is true (C12.11)
+--     check_claims                what an accepted file claims is true (C12.11)
 -- Assumes nothing.
 use mathlib.Core.Path.{◌≡◌, refl, sym, ◌∙◌}
 use mathlib.Core.Logic.{◌⊎◌, inl, inr}

@@ -1,7 +1,7 @@
 -- What is known of a file that parses: each section with its count and its end. The stages are taken apart from the first to the last, each handing
 -- what it found to the next.
 --     parses         the sections, from the outline answered (C1.5)
---     walk-opens     a walk, and what follows it to an outline
+--     walk_opens     a walk, and what follows it to an outline
 --     same           an outline that is found is one
 -- Assumes nothing.
 use mathlib.Core.Path.{◌≡◌, refl, ap, subst, ◌∙◌}

@@ -1,10 +1,10 @@
 -- Laws of a file that parses.
---     variables-most, transitions-most, nodes-allowed, nodes-most, edges_most     its counts lie within their limits (C10.5)
---     nodes-least    it has a node (C1.13)
---     variable-range     a variable's range is not empty
---     edge-names     an edge names a transition and nodes of the file (C1.15)
---     edges-end      the edges, of one record each, end the file
---     edge-new       no edge repeats an earlier one (C10.6)
+--     variables_most, transitions_most, nodes_allowed, nodes_most, edges_most     its counts lie within their limits (C10.5)
+--     nodes_least    it has a node (C1.13)
+--     variable_range     a variable's range is not empty
+--     edge_names     an edge names a transition and nodes of the file (C1.15)
+--     edges_end      the edges, of one record each, end the file
+--     edge_new       no edge repeats an earlier one (C10.6)
 -- Assumes nothing.
 use mathlib.Core.Path.{◌≡◌}
 use mathlib.Core.List.{List}

@@ -1,7 +1,7 @@
 -- A refusal of parsing has a number of 2 or more, and its place is a record of the file or the record count, so at most 4,096.
---     refused, test-refuses, refuses-more     answers of any type, by how they are made
---     walk-then                               what follows a part
---     parse-refuses                           the whole file
+--     refused, test_refuses, refuses_more     answers of any type, by how they are made
+--     walk_then                               what follows a part
+--     parse_refuses                           the whole file
 -- Each definition of parsing is gone through as it stands: a test has two sides, and what follows a part keeps the part's refusal.
 -- Assumes nothing.
 use mathlib.Core.Path.{◌≡◌, refl}

@@ -1,7 +1,7 @@
 -- What is carried from record to record through a file that parses: P holds at the first record; past a record that begins an item it goes on holding,
 -- and so it does past a whole expression.
---     at-start, at-transitions, at-claims, at-nodes, at-end     where it then holds: at each section
---     update-through, transition-through, node_through          and past each update, each transition and each node
+--     at_start, at_transitions, at_claims, at_nodes, at_end     where it then holds: at each section
+--     update_through, transition_through, node_through          and past each update, each transition and each node
 -- Assumes nothing.
 use mathlib.Core.Path.{◌≡◌}
 use mathlib.Core.Bool.{true}

@@ -1,7 +1,7 @@
 -- Laws of how many states a file has: the product of its ranges, variable by variable.
 --     product_whole     it is the product of the twelve ranges from the first on (C4.3)
---     product-more      the product from a variable on: its size times that from the next one on (C4.3)
---     product-lacked    a variable that the file lacks has one value (C4.3)
+--     product_more      the product from a variable on: its size times that from the next one on (C4.3)
+--     product_lacked    a variable that the file lacks has one value (C4.3)
 -- Assumes nothing.
 use mathlib.Core.Path.{◌≡◌}
 use mathlib.Core.Bool.{cond}

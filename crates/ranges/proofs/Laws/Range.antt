@@ -1,8 +1,8 @@
 -- Laws of the ranges of a file's variables.
---     ends-length, ends_at, ends-beyond     a table of ends has 12 entries: those of the file's variables, and 0 beyond
---     ranges-file                           where no variable's range is empty, none of the twelve is
---     state-idle                            a variable that the file lacks is 0 in every state (C4.2)
---     states-idle                           beyond a file's variables every state is idle
+--     ends_length, ends_at, ends_beyond     a table of ends has 12 entries: those of the file's variables, and 0 beyond
+--     ranges_file                           where no variable's range is empty, none of the twelve is
+--     state_idle                            a variable that the file lacks is 0 in every state (C4.2)
+--     states_idle                           beyond a file's variables every state is idle
 -- Assumes nothing.
 use mathlib.Core.Path.{◌≡◌, sym, ◌∙◌}
 use mathlib.Core.List.{List}

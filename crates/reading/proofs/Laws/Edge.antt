@@ -1,9 +1,9 @@
 -- The edges of a readable file.
---     edge-names         each names a transition and nodes that exist
+--     edge_names         each names a transition and nodes that exist
 --     edge_leads         it leads from a node that it may, and not up unless it may (C9.2, C9.3)
---     edge-single        it is single where edges may not be double (C9.1, C9.4)
---     edge-double        a double one leads down, unless edges may rise, and its transition is just (C9.5, C9.6)
---     double-transition  where edges may be double, each node that they may lead from has exactly one double transition, and it is just (C9.7 to C9.9)
+--     edge_single        it is single where edges may not be double (C9.1, C9.4)
+--     edge_double        a double one leads down, unless edges may rise, and its transition is just (C9.5, C9.6)
+--     double_transition  where edges may be double, each node that they may lead from has exactly one double transition, and it is just (C9.7 to C9.9)
 -- Assumes nothing.
 use mathlib.Core.Path.{◌≡◌, refl, sym, ◌∙◌}
 use mathlib.Core.Bool.{Bool, true, false, cond, not, ◌&&◌, ◌||◌, beq, and-eq-true_iff, false≢true}

@@ -1,6 +1,6 @@
 -- Refusal 8 says what it means: the record at its place has an own interval that goes out of bounds.
---     analysis-out      of an expression that walks to its end
---     intervals-out     of a file that parses (C10.8)
+--     analysis_out      of an expression that walks to its end
+--     intervals_out     of a file that parses (C10.8)
 -- Assumes nothing.
 use mathlib.Core.Path.{◌≡◌, ap, subst, ◌∙◌}
 use mathlib.Core.Logic.{◌⊎◌, inl, inr}

@@ -1,8 +1,8 @@
 -- How many combinations of picks a transition of a readable file has. The scan of refusal 22 is followed from the file's first record to the transition,
 -- and on through its guard and its updates: no record of an expression is a transition or a pick, so the scan passes them as they are.
---     size-at                   how many values a pick has
+--     size_at_lem                   how many values a pick has
 --     choices, combinations     how many values an update may give its variable, and how many combinations of these updates have
---     combinations-most         those of a transition have at most 4,096 (C10.22)
+--     combinations_most         those of a transition have at most 4,096 (C10.22)
 -- Assumes nothing.
 use mathlib.Core.Path.{◌≡◌, refl, sym, ◌∙◌}
 use mathlib.Core.Bool.{Bool, true, false, cond}

@@ -1,13 +1,13 @@
 -- What is known of a readable file: the page that the layers above cite. Each law follows from the answer of `read` alone.
 --     whole, small                        the file is whole records, at most 4,096 of them (C10.2)
---     variables-within, transitions-within, nodes-within, phases, edges-within     its counts, within their limits (C1.6, C1.8, C1.13, C1.13, C1.14)
---     property-right, property-known      the property's fields are right; what the property claims is known
---     variable-range, states-within, states-end     no range is empty; the states are the product of the ranges, at most 1,048,576
+--     variables_within, transitions_within, nodes_within, phases, edges_within     its counts, within their limits (C1.6, C1.8, C1.13, C1.13, C1.14)
+--     property_right, property_known      the property's fields are right; what the property claims is known
+--     variable_range, states_within, states_end     no range is empty; the states are the product of the ranges, at most 1,048,576
 --     start, transition, claimed, node    each expression walks to its end, with its intervals in bounds; no variable is assigned twice (C3.6)
---     transition-place, node-place        the tables of places have each transition's and each node's record
---     edge, edge-new, edge_leads, edge-double     each edge names what exists, is new and obeys its rules
---     double-transition                   where edges may be double, each node that they may lead from has exactly one double transition, and it is just
---     just-place                          whether a transition is just, by its record
+--     transition_place, node_place        the tables of places have each transition's and each node's record
+--     edge, edge_new, edge_leads, edge_double     each edge names what exists, is new and obeys its rules
+--     double_transition                   where edges may be double, each node that they may lead from has exactly one double transition, and it is just
+--     just_place                          whether a transition is just, by its record
 -- Assumes nothing.
 use mathlib.Core.Path.{◌≡◌, sym, ap, ◌∙◌}
 use mathlib.Core.Bool.{true, false}

@@ -1,6 +1,6 @@
 -- A refusal of reading has a number of 2 or more, and a place of at most 4,096: so it is for parsing, and each later stage names a variable, a
 -- record or a node.
---     read-refuses     of the whole file (C11.7)
+--     read_refuses     of the whole file (C11.7)
 -- Assumes nothing.
 use mathlib.Core.Path.{◌≡◌, refl}
 use mathlib.Core.Bool.{Bool, cond}

@@ -1,6 +1,6 @@
 -- The scan of refusal 8 passes every expression of a readable file. It is followed from the file's first record to its last, section by section: where
 -- it comes to an expression that walks to its end, the analysis passed it, and the scan goes on behind it.
---     start-scanned, transition-scanned, claimed-scanned, node-scanned     the start, each transition, each expression of the property, each node
+--     start_scanned, transition_scanned, claimed_scanned, node_scanned     the start, each transition, each expression of the property, each node
 -- Assumes nothing.
 use mathlib.Core.Path.{◌≡◌, sym, ap, ◌∙◌}
 use mathlib.Core.Bool.{true, false}

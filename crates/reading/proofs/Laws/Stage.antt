@@ -1,5 +1,5 @@
 -- The stages that a readable file passed.
---     stages-of      from the reading answered
+--     stages_of      from the reading answered
 -- Assumes nothing.
 use mathlib.Core.Path.{◌≡◌, refl, subst}
 use mathlib.Core.List.{List}

@@ -1,16 +1,16 @@
 -- Laws of the classification of kinds.
---     constant-form, variable-form, arithmetic-form, indicator-form, division-form, literal-form, negation-form, connective-form, comparison-form
+--     constant_form, variable_form, arithmetic_form, indicator_form, division_form, literal_form, negation_form, connective_form, comparison_form
 --                                                 the form of a kind, by the range that it lies in
---     unfit-below, unfit-between, unfit-behind, unfit-above     a kind in none of the ranges is unfit (C2.11)
---     signature-form, signature-by                the signature of a kind is its form's (C2.2, C2.11)
---     leaf-signature                              constants and variables have one signature
---     head-none                                   the kinds below 10, which begin the items of a file, begin no expression
---     operands-most                               no kind has more than two operands
---     number-forms, truth-forms                   what is so of each form of a number, of a truth, is so of any
---     form-range, number-range, truth-range       a kind lies in the range of its form; the kinds of the numbers and of the truths
---     variable-named                              a variable's record names one of the file's
---     suits-above                               a divisor's record is a constant above 0 (C2.15)
---     sort-for-some                               where a sort is asked, the records that may stand there have one
+--     unfit_below, unfit_between, unfit_behind, unfit_above     a kind in none of the ranges is unfit (C2.11)
+--     signature_form, signature_by                the signature of a kind is its form's (C2.2, C2.11)
+--     leaf_signature                              constants and variables have one signature
+--     head_none                                   the kinds below 10, which begin the items of a file, begin no expression
+--     operands_most                               no kind has more than two operands
+--     number_forms, truth_forms                   what is so of each form of a number, of a truth, is so of any
+--     form_range, number_range, truth_range       a kind lies in the range of its form; the kinds of the numbers and of the truths
+--     variable_named                              a variable's record names one of the file's
+--     suits_above                               a divisor's record is a constant above 0 (C2.15)
+--     sort_for_some                               where a sort is asked, the records that may stand there have one
 -- Assumes nothing.
 use mathlib.Core.Path.{◌≡◌, refl, sym, ap, ◌∙◌}
 use mathlib.Core.Bool.{Bool, true, false, cond, ◌&&◌, and-eq-true_iff, and-false}

@@ -1,9 +1,9 @@
 -- An expression walks by its own records alone: where they are copied, to any place of any file, the copy walks alike.
---     bytes_same, same_byte, same-there     records are the same where their bytes are, and as many of them are there
---     same-inside, same-record              so are those that lie among them, and the bytes of each
---     kind-same, a-same, b-same, c-same     then so are a record's fields
---     copy-opens                            a copied expression: its record, and its operands, which are copied too
---     walk-local, span-local                the copy walks, over as many records
+--     bytes_same, same_byte, same_there     records are the same where their bytes are, and as many of them are there
+--     same_inside, same_record              so are those that lie among them, and the bytes of each
+--     kind_same, a_same, b_same, c_same     then so are a record's fields
+--     copy_opens                            a copied expression: its record, and its operands, which are copied too
+--     walk_local, span_local                the copy walks, over as many records
 -- Assumes nothing.
 use mathlib.Core.Path.{◌≡◌, refl, sym, ap, ◌∙◌}
 use mathlib.Core.Bool.{true}

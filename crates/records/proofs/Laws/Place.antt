@@ -1,7 +1,7 @@
 -- Laws of the table of places.
---     length-places     it has 32 entries
---     places-nth        entry i is where part i stands
---     filled-begins, filled_more, filled-done, filled-refused     the table as it is filled, each entry where the parts before it end
+--     length_places     it has 32 entries
+--     places_nth        entry i is where part i stands
+--     filled_begins, filled_more, filled_done, filled_refused     the table as it is filled, each entry where the parts before it end
 -- Assumes nothing.
 use mathlib.Core.Path.{◌≡◌, refl, sym, ap, subst, ◌∙◌}
 use mathlib.Core.List.{List}

@@ -1,6 +1,6 @@
 -- Laws of the tests of a record.
---     kind-is                    a record that passes the test of its kind is there, and has that kind
---     bytes-none, bytes_next     bytes are the same where there are none, and where the first are and the others
+--     kind_is_lem                    a record that passes the test of its kind is there, and has that kind
+--     bytes_none, bytes_next     bytes are the same where there are none, and where the first are and the others
 --     word_bytes                 so are those of two words that are the same
 -- Assumes nothing.
 use mathlib.Core.Path.{◌≡◌, refl}

@@ -1,7 +1,7 @@
 -- Laws of tests of numbers in a row, the first that fails refused.
---     refuse-none, refuse-fails, refuse-next     one step, as a loop takes it
---     refuse-all                                 where none is refused, each passes
---     refused-first                              one that is refused is one of them
+--     refuse_none, refuse_fails, refuse_next     one step, as a loop takes it
+--     refuse_all                                 where none is refused, each passes
+--     refused_first                              one that is refused is one of them
 -- Assumes nothing.
 use mathlib.Core.Path.{◌≡◌, refl}
 use mathlib.Core.Bool.{Bool, true, false, cond}

@@ -1,8 +1,8 @@
 -- What refuses a walk that begins within the file.
---     refused-then         of a part and others behind it, it is what refuses the part or the others
---     refused-sequence     of parts in sequence it is what refuses one of them
---     refused-walk         of an expression it has a number of 3 or more, and its place is a record of the file or the record count
---     divisor-refused      a record that fits where a divisor is asked, but isn't one, is refused with 19, whatever stands behind it (C10.19, C11.2)
+--     refused_then         of a part and others behind it, it is what refuses the part or the others
+--     refused_sequence     of parts in sequence it is what refuses one of them
+--     refused_walk         of an expression it has a number of 3 or more, and its place is a record of the file or the record count
+--     divisor_refused      a record that fits where a divisor is asked, but isn't one, is refused with 19, whatever stands behind it (C10.19, C11.2)
 -- Assumes nothing.
 use mathlib.Core.Path.{◌≡◌, refl, ◌∙◌}
 use mathlib.Core.Bool.{Bool, true, false, cond, ◌&&◌, and-eq-true_iff}

@@ -1,8 +1,8 @@
 -- Laws of the span of an expression.
---     kind-part, form-part                the record of a part is the file's
---     spans-none, spans-one, spans-two    so many records and the operands behind them, by how many operands there are
---     span-opens, span-some               the span by those of the operands; it is a record at least
---     walk-span                           where the walk of an expression ends, by its span
+--     kind_part, form_part                the record of a part is the file's
+--     spans_none, spans_one, spans_two    so many records and the operands behind them, by how many operands there are
+--     span_opens, span_some               the span by those of the operands; it is a record at least
+--     walk_span                           where the walk of an expression ends, by its span
 -- Assumes nothing.
 use mathlib.Core.Path.{◌≡◌, refl, sym, ap, ◌∙◌}
 use mathlib.Core.List.{List}

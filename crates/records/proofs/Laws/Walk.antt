@@ -1,12 +1,12 @@
 -- Laws of the walk that the crates above cite.
---     walk-opens     an expression that walks to an end: what its record is, and that its operands walk to that end (C2.1)
---     walk-suits     and that it is a divisor where one is asked (C2.15)
---     walk-bound     the end lies behind the record and within the file
---     then-first, then-ends               a part, and what follows it: where the part ends, unless its refusal stands
---     sequence-none, sequence-next        no part, and one behind a part that ends
---     sequence-first, sequence-one        parts in sequence that end, from the first on
---     sequence-induct, sequence-bound     by induction over them: they end within the file too
---     operands-none, operands-first, operands-one, operands-two     a record's operands that end, by how many there are
+--     walk_opens     an expression that walks to an end: what its record is, and that its operands walk to that end (C2.1)
+--     walk_suits     and that it is a divisor where one is asked (C2.15)
+--     walk_bound     the end lies behind the record and within the file
+--     then_first, then_ends               a part, and what follows it: where the part ends, unless its refusal stands
+--     sequence_none, sequence_next        no part, and one behind a part that ends
+--     sequence_first, sequence_one        parts in sequence that end, from the first on
+--     sequence_induct, sequence_bound     by induction over them: they end within the file too
+--     operands_none, operands_first, operands_one, operands_two     a record's operands that end, by how many there are
 -- Assumes nothing.
 use mathlib.Core.Path.{◌≡◌, refl, sym, ◌∙◌}
 use mathlib.Core.Bool.{Bool, true, false, cond, ◌&&◌, and-eq-true_iff}

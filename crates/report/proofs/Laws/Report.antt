@@ -1,9 +1,9 @@
 -- Laws of the report.
---     value-bytes      two bytes for each value (C14.3)
---     report-short     a buffer with fewer than 32 bytes stays as it is (C14.4)
---     report-rest      of a longer one the bytes from the 33rd on stay, and its length (C14.6)
---     set-pair-at      two neighbours of a list, set one after the other
---     report-number    its first byte is the number, where it has room (C14.1)
+--     value_bytes_lem      two bytes for each value (C14.3)
+--     report_short     a buffer with fewer than 32 bytes stays as it is (C14.4)
+--     report_rest      of a longer one the bytes from the 33rd on stay, and its length (C14.6)
+--     set_pair_at      two neighbours of a list, set one after the other
+--     report_number    its first byte is the number, where it has room (C14.1)
 -- Assumes nothing.
 use mathlib.Core.Path.{◌≡◌, refl, sym, ap}
 use mathlib.Core.List.{List, [], ◌∷◌, ◌++◌}

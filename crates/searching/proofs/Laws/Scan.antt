@@ -1,10 +1,10 @@
 -- Laws of a loop over the states of a diagram, whose values it carries forward.
 --     StatesPassed                     so many states are passed, in each of which the test holds
---     pass-begin, pass-more            none, at the first state; one more, where the test holds
---     pass-within, pass-idle           the state at hand is one, and its values behind the variables are idle
---     pass-here                        the test there is that of the state of the number
---     onward-asks, pass-onward         boxes may be asked; what they let skip is passed
---     pass-fails, pass-end             the first state at which the test fails, or all are passed
+--     pass_begin, pass_more            none, at the first state; one more, where the test holds
+--     pass_within, pass_idle           the state at hand is one, and its values behind the variables are idle
+--     pass_here                        the test there is that of the state of the number
+--     onward_asks, pass_onward         boxes may be asked; what they let skip is passed
+--     pass_fails, pass_end             the first state at which the test fails, or all are passed
 -- Assumes nothing.
 use mathlib.Core.Path.{◌≡◌, sym, ◌∙◌}
 use mathlib.Core.Bool.{Bool, true, false}

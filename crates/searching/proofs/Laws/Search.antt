@@ -1,6 +1,6 @@
 -- Laws of the search of whole boxes: what is skipped holds.
---     decided-each                   a condition that is decided on a box holds at each of its states
---     narrow-before                  and at each state before the one that is narrowed down to, where it does before the box
+--     decided_each                   a condition that is decided on a box holds at each of its states
+--     narrow_before                  and at each state before the one that is narrowed down to, where it does before the box
 --     end_before                     from the whole ranges, at each state before
 --     skipped                        so it holds at each state that is skipped
 -- Assumes nothing.

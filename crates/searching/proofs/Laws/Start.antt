@@ -1,6 +1,6 @@
 -- Laws of the search for a starting state.
---     starts-failing     there is one exactly if "the start is false" fails at some state (C10.20)
---     denial-start       it can be evaluated at every state
+--     starts_failing     there is one exactly if "the start is false" fails at some state (C10.20)
+--     denial_start       it can be evaluated at every state
 -- Assumes nothing.
 use mathlib.Core.Path.{◌≡◌, ◌∙◌}
 use mathlib.Core.List.{List}

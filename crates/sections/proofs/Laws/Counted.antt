@@ -1,9 +1,9 @@
 -- What each section that was counted holds.
---     variables-limit, transitions-limit, nodes-limit, edges-limit             no more items than it may
---     variables-through, transitions-through, nodes-through, edges-through     what is carried past each item is carried past the section
---     transitions-reach, nodes-reach                  each transition and each node, with what was carried to it
---     variables-end, edges-end                        where sections of one record an item end
---     variable-range                                  a variable's range is not empty
+--     variables_limit, transitions_limit, nodes_limit, edges_limit             no more items than it may
+--     variables_through, transitions_through, nodes_through, edges_through     what is carried past each item is carried past the section
+--     transitions_reach, nodes_reach                  each transition and each node, with what was carried to it
+--     variables_end, edges_end                        where sections of one record an item end
+--     variable_range                                  a variable's range is not empty
 -- Assumes nothing.
 use mathlib.Core.Path.{◌≡◌, sym, subst}
 use mathlib.Core.Bool.{true, ◌&&◌, and-eq-true_iff}

@@ -1,8 +1,8 @@
 -- Laws of an edge's record, and of the edges counted.
---     edge-named     an edge whose fields are right names a transition and nodes that exist
---     edge-apart     edges that differ in a byte of a, b and c differ in their transition or in a node
---     edge-names     each edge of a section that was counted names a transition and nodes that exist
---     edge-new       none repeats an earlier one
+--     edge_named     an edge whose fields are right names a transition and nodes that exist
+--     edge_apart     edges that differ in a byte of a, b and c differ in their transition or in a node
+--     edge_names     each edge of a section that was counted names a transition and nodes that exist
+--     edge_new       none repeats an earlier one
 -- Assumes nothing.
 use mathlib.Core.Path.{◌≡◌, sym, ◌∙◌}
 use mathlib.Core.Bool.{true, false, ◌&&◌, and-eq-true_iff, false≢true}

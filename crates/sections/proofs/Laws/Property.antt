@@ -1,8 +1,8 @@
 -- Laws of the property's record.
---     property-known                     a property whose fields are right claims something known
---     property-nodes                     it counts 1 to 32 phases, if any (C1.11)
---     phases-counted, phases-limit       as many nodes as phases where they are counted, else the limit
---     expressions-are                    p where it stands before q, then the q's (C1.12)
+--     property_known                     a property whose fields are right claims something known
+--     property_nodes                     it counts 1 to 32 phases, if any (C1.11)
+--     phases_counted, phases_limit       as many nodes as phases where they are counted, else the limit
+--     expressions_are                    p where it stands before q, then the q's (C1.12)
 -- Assumes nothing.
 use mathlib.Core.Path.{◌≡◌, refl}
 use mathlib.Core.Bool.{Bool, true, false, cond, ◌&&◌, and-eq-true_iff}

@@ -1,5 +1,5 @@
 -- What refuses a section that begins within the file: it has a number of 3 or more, and its place is a record of the file or the record count.
---     refused-variables, refused-transitions, refused-nodes, refused-edges     of each section
+--     refused_variables, refused_transitions, refused_nodes, refused_edges     of each section
 -- Assumes nothing.
 use mathlib.Core.Path.{◌≡◌, refl, ◌∙◌}
 use mathlib.Core.Bool.{Bool, true, false, cond}

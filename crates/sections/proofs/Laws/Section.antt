@@ -1,20 +1,20 @@
 -- What a section that was counted holds, and where its items stand.
---     items-most         no more items than it may
---     items-single       where items of one record each end
---     single-nth         such an item passed its tests
---     items-reach, sequence-reach         each item and each part: where it is, by those before it, that it passed its tests, and what holds there
---     items-through, sequence-through     what holds at the first holds behind the last
---     transition-just, update-named       what the first record of a transition says, and that of an update names
---     update-assigns                      an update that is no pick is an assignment
---     update-pick                         the values of a pick are in order, and in the range of its variable (C1.16)
---     pick-one, pick_ends, assignment-ends    where an update ends
---     update_here, update-bound           its record is in the file; it ends behind it and within the file
---     updates-induct, updates-through     by induction over a transition's updates; so what holds at the first holds behind the last
---     transition-opens                    a transition's guard and its updates
---     transition-bound, transitions-bound     each ends behind its first record and within the file
+--     items_most         no more items than it may
+--     items_single       where items of one record each end
+--     single_nth         such an item passed its tests
+--     items_reach, sequence_reach         each item and each part: where it is, by those before it, that it passed its tests, and what holds there
+--     items_through, sequence_through     what holds at the first holds behind the last
+--     transition_just, update_named       what the first record of a transition says, and that of an update names
+--     update_assigns                      an update that is no pick is an assignment
+--     update_pick                         the values of a pick are in order, and in the range of its variable (C1.16)
+--     pick_one, pick_ends, assignment_ends    where an update ends
+--     update_here, update_bound           its record is in the file; it ends behind it and within the file
+--     updates_induct, updates_through     by induction over a transition's updates; so what holds at the first holds behind the last
+--     transition_opens                    a transition's guard and its updates
+--     transition_bound, transitions_bound     each ends behind its first record and within the file
 --     node_opens         a node's assertion and its ranks
---     node-bound         it ends behind its first record and within the file
---     edge-opens         an edge repeats none, and is one record
+--     node_bound         it ends behind its first record and within the file
+--     edge_opens         an edge repeats none, and is one record
 -- Assumes nothing.
 use mathlib.Core.Path.{◌≡◌, refl, sym, ap, subst, ◌∙◌}
 use mathlib.Core.Logic.{⊎_elim}

@@ -1,5 +1,5 @@
 -- Laws of an edge by itself.
---     double-from, from-double     an edge is a double one from a node exactly if it is double and leads from that node
+--     double_from_lem, from_double     an edge is a double one from a node exactly if it is double and leads from that node
 -- Assumes nothing.
 use mathlib.Core.Path.{◌≡◌}
 use mathlib.Core.Bool.{true, and-eq-true_iff}

@@ -1,10 +1,10 @@
 -- Laws of the table of properties.
---     known-claims        the claims that there are (C1.10)
+--     known_claims        the claims that there are (C1.10)
 --     unknown             there is no other
---     invariance-row, wait-for-row, chain-row     the row of each
---     from-most           conditions of range and step begin at node 0 or 1
---     entry-from          at node 1 exactly where p stands before q: node 0 is then the goal (C8.2)
---     doubles-from        so where edges may be double
+--     invariance_row, wait_for_row, chain_row     the row of each
+--     from_most           conditions of range and step begin at node 0 or 1
+--     entry_from          at node 1 exactly where p stands before q: node 0 is then the goal (C8.2)
+--     doubles_from        so where edges may be double
 -- Assumes nothing.
 use mathlib.Core.Path.{◌≡◌, refl}
 use mathlib.Core.Logic.{◌⊎◌, inl, inr}

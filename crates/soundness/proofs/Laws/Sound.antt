@@ -143,7 +143,7 @@ module _ (file : List ℕ) (g : Diagram) (r : Loaded file g) where
             step = λ i h t ht. keep i t (all (Step i t) (step_in file g i t (every i) h ht));
           }
 
-    -- ---- wait-for
+    -- ---- wait_for
     module _ (kind : g.claim ≡ Kind.WaitFor) where
       waiting_count : g.nodes ≡ suc (g.nodes - 1)
       waiting_count = omega (arith, keeps.nodes.0)

@@ -1,12 +1,12 @@
 -- The system of a file has the states and steps of the specification, and none is missing.
---     successor-state     each successor of a state is a state (C5.4)
---     successor-listed    to be in the list of successors is enough to be one, for what is taken too (C6.4)
---     enabled-taken       a transition that is enabled has one (C5.7)
---     steps-run           so whatever begins in a state and goes on by steps, idling or taking a transition, is a run: a state at each position (C6.7)
+--     successor_state     each successor of a state is a state (C5.4)
+--     successor_listed    to be in the list of successors is enough to be one, for what is taken too (C6.4)
+--     enabled_taken       a transition that is enabled has one (C5.7)
+--     steps_run           so whatever begins in a state and goes on by steps, idling or taking a transition, is a run: a state at each position (C6.7)
 --     step_run            a state and one of its successors are one
---     state-run           and a state by itself, whichever it is (C6.3, C6.7)
---     idle-run            and a state for ever
---     readable-starts     so a readable file has a run from a starting state (C7.10)
+--     state_run           and a state by itself, whichever it is (C6.3, C6.7)
+--     idle_run            and a state for ever
+--     readable_starts     so a readable file has a run from a starting state (C7.10)
 -- Assumes nothing.
 use mathlib.Core.Path.{refl, sym, ◌∙◌}
 use mathlib.Core.Logic.{inl, inr}

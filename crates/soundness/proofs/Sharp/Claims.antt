@@ -3,17 +3,17 @@
 --                           claim     the clause that it protects
 --     begins                          of any such file: a run of its system begins in a state where its start is true (C7.10)
 --     no_kind               false     of any file: there is no other kind (C1.10)
---     invariance-q          false     q holds at each position, from a starting state (C7.1)
---     invariance-range      false     values in range, in each node from 0 to the last, of each transition (C7.8)
---     invariance-node       true      values in range in the nodes only
---     wait-for-q            false     numbers, wherever p holds (C7.3)
---     wait-for-range        false     values in range, in each node from 1 to the last (C8.2)
---     wait-for-numbers      true      m = b - 1 (C1.11), and the q of each number; a = 2 claims neither an invariance nor a chain
---     wait-for-goal         true      where p holds only; in the goal a value may be out of range
---     chain-q               false     q comes, wherever p holds (C7.5, C7.6)
---     chain-node            false     some node is true there
---     chain-range           false     values in range, in each node from 1 to the last
---     chain-goal            true      where p holds only, the q behind p, all nodes; in the goal a value may be out of range; a = 3 claims no invariance
+--     invariance_q          false     q holds at each position, from a starting state (C7.1)
+--     invariance_range      false     values in range, in each node from 0 to the last, of each transition (C7.8)
+--     invariance_node       true      values in range in the nodes only
+--     wait_for_q            false     numbers, wherever p holds (C7.3)
+--     wait_for_range        false     values in range, in each node from 1 to the last (C8.2)
+--     wait_for_numbers      true      m = b - 1 (C1.11), and the q of each number; a = 2 claims neither an invariance nor a chain
+--     wait_for_goal         true      where p holds only; in the goal a value may be out of range
+--     chain_q               false     q comes, wherever p holds (C7.5, C7.6)
+--     chain_node            false     some node is true there
+--     chain_range           false     values in range, in each node from 1 to the last
+--     chain_goal            true      where p holds only, the q behind p, all nodes; in the goal a value may be out of range; a = 3 claims no invariance
 -- In an invariance, p and every q are its one q; in a chain, every q is. Behind a wait-for's last q none is true: with a larger m it claims the same.
 -- Assumes nothing.
 use mathlib.Core.Path.{◌≡◌, refl, subst}

@@ -1,6 +1,6 @@
 -- Two small systems, and the files that claim something of them.
 --     Case, file, outline, diagram     a claim and its diagram, behind the system's records
---     invariance, wait-for, chain      the three kinds, of one system
+--     invariance, wait_for, chain      the three kinds, of one system
 --     picking                          the same claim, of the other
 --     claims, refuted, started         a file has one diagram: what it claims is what is claimed with that, true or false; so is its start
 -- Assumes nothing.

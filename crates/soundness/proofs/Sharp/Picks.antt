@@ -1,12 +1,12 @@
 -- A system with a pick: which successors there are, what is taken, and claims that a pick makes false. A claim about one of the successors only would be
 -- true of these files.
 --     picked              each value of the pick, in order, and no other; none where the transition is disabled (C5.3, C5.6)
---     taken-idle          idling takes a transition that may pick the values at hand (C6.4)
---     idle-just           so to idle there for ever is to be k-just for each k (C6.6)
+--     taken_idle          idling takes a transition that may pick the values at hand (C6.4)
+--     idle_just           so to idle there for ever is to be k-just for each k (C6.6)
 --                           claim
---     never-left          false     a chain whose step may pick the values at hand
---     lowest-left         false     an invariance that only the pick's lowest value breaks
---     highest-left        false     only its highest
+--     never_left          false     a chain whose step may pick the values at hand
+--     lowest_left         false     an invariance that only the pick's lowest value breaks
+--     highest_left        false     only its highest
 -- Assumes nothing.
 use mathlib.Core.Path.{◌≡◌, refl}
 use mathlib.Core.Logic.{inl, inr}

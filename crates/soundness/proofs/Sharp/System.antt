@@ -1,5 +1,5 @@
 -- The system of a file is the one that its records say: each component, at each state of the system of Files.antt.
---     in-states       a state gives v a value in its range (C4.1)
+--     in_states       a state gives v a value in its range (C4.1)
 --     start           true at v = 1 (C6.3)
 --     transitions     all
 --     just            the last, not the first (C5.5)

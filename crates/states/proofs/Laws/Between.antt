@@ -1,8 +1,8 @@
 -- Laws of the states between two ends.
---     between-within, within-between     those listed are those between the ends, and no others
---     between-length                     as many as the count
---     between-rises, between-ascends     they are listed by their numbers, also those in wider ranges, so that none is there twice (C5.6)
---     Trying, trying-first, trying-fails, trying-passes, trying-next, trying-less     a test of each, one after the other by the move forward
+--     between_within, within_between     those listed are those between the ends, and no others
+--     between_length                     as many as the count
+--     between_rises, between_ascends     they are listed by their numbers, also those in wider ranges, so that none is there twice (C5.6)
+--     Trying, trying_first, trying_fails, trying_passes, trying_next, trying_less     a test of each, one after the other by the move forward
 -- Assumes nothing.
 use mathlib.Core.Path.{◌≡◌, refl, sym, ◌∙◌}
 use mathlib.Core.Bool.{Bool, true, false, ◌&&◌}

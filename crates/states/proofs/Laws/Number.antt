@@ -1,15 +1,15 @@
 -- Laws of the numbers of states.
---     count-pos, size-pos                there is a state at least, and a value in each range
---     count-self, count_set              one where no range has more than a value; at most so many times more where one variable has
---     below-high                         an offset below the size of a range is that of a value in it
---     number-below, state-within         a state has a number below the count, and such a number a state (C4.5)
---     state-of-number, number-of-state   each determines the other (C4.5)
---     number-unique                      no two states have one number (C4.5)
---     first-number, first-state          number 0 is the state of the low ends
---     advance-within                     the move forward leads to a state
---     advance-number, advance-next       from any state but the last, to the one numbered one higher (C4.6)
---     advance-last                       and from the last to the first
---     last-number, next-number           the last state has the last number and starts anew; any other moves on by one
+--     count_pos, size_pos                there is a state at least, and a value in each range
+--     count_self, count_set              one where no range has more than a value; at most so many times more where one variable has
+--     below_high                         an offset below the size of a range is that of a value in it
+--     number_below, state_within         a state has a number below the count, and such a number a state (C4.5)
+--     state_of_number, number_of_state   each determines the other (C4.5)
+--     number_unique                      no two states have one number (C4.5)
+--     first_number, first_state          number 0 is the state of the low ends
+--     advance_within                     the move forward leads to a state
+--     advance_number, advance_next       from any state but the last, to the one numbered one higher (C4.6)
+--     advance_last                       and from the last to the first
+--     last_number, next_number           the last state has the last number and starts anew; any other moves on by one
 -- Assumes nothing.
 use mathlib.Core.Path.{◌≡◌, refl, sym, ap, ◌∙◌}
 use mathlib.Core.Bool.{Bool, true, false, cond, ◌&&◌, and-eq-true_iff, and-true}

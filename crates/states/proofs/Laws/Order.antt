@@ -1,6 +1,6 @@
 -- Laws of the order of states: by the first variable in which they differ, as by their numbers.
---     precedes-less, less-precedes    a state precedes another exactly where its number is lower (C4.4)
---     none-precedes, nothing-before   none precedes the low ends, and no number is below theirs
+--     precedes_less, less_precedes    a state precedes another exactly where its number is lower (C4.4)
+--     none_precedes, nothing_before   none precedes the low ends, and no number is below theirs
 -- Assumes nothing.
 use mathlib.Core.Path.{◌≡◌}
 use mathlib.Core.Logic.{⊎_elim}

@@ -1,11 +1,11 @@
 -- Laws of ranges and states.
---     ranges-at, at-ranges                  no range is empty: index by index
---     ranges-set, ranges-same, ranges-low   one more range, those that hold one state alone, and the state of the low ends
---     within-ends                           what lies between two states of the ranges is a state
---     within-at, at-within, within-length   a state lies within its ranges: index by index
---     within-ranges                         where there is a state, no range is empty
---     within-set                            a variable may take any value of its range
---     at-idle                               what a state that is idle beyond some variables is, index by index
+--     ranges_at, at_ranges                  no range is empty: index by index
+--     ranges_set, ranges_same, ranges_low   one more range, those that hold one state alone, and the state of the low ends
+--     within_ends                           what lies between two states of the ranges is a state
+--     within_at, at_within, within_length   a state lies within its ranges: index by index
+--     within_ranges                         where there is a state, no range is empty
+--     within_set                            a variable may take any value of its range
+--     at_idle                               what a state that is idle beyond some variables is, index by index
 -- Assumes nothing.
 use mathlib.Core.Path.{◌≡◌, refl, ap}
 use mathlib.Core.List.{List, [], ◌∷◌}

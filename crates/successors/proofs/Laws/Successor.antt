@@ -1,8 +1,8 @@
 -- Where a transition leads from a box is right for each of its states where the transition fits.
---     guard-said           whether its guard holds
---     range-said           whether the values that it gives lie in range, where its guard holds
---     enabled-said         whether it is enabled
---     successor-inside     each successor of an enabled transition lies in the box that it leads to
+--     guard_said           whether its guard holds
+--     range_said           whether the values that it gives lie in range, where its guard holds
+--     enabled_said         whether it is enabled
+--     successor_inside     each successor of an enabled transition lies in the box that it leads to
 --     to_low, to_high      that box lies in the ranges, as the box that it leads from does
 -- Assumes nothing.
 use mathlib.Core.Path.{◌≡◌, refl}

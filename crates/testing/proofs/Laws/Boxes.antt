@@ -1,6 +1,6 @@
 -- What is seen of a prepared test on a box is so at each of its states.
---     passes-said     the test passes there or not, as is said
---     passes-yes      so where it is seen to pass, it does
+--     passes_said     the test passes there or not, as is said
+--     passes_yes      so where it is seen to pass, it does
 -- Assumes nothing.
 use mathlib.Core.Path.{◌≡◌, refl}
 use mathlib.Core.Bool.{Bool, true}

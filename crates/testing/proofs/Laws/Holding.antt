@@ -1,8 +1,8 @@
 -- What a condition says, by its kind, and where one of several nodes holds.
---     start-says, entry-says, cover-says, range-says, step-says, enabling-says     each kind of condition (C8.7 to C8.11, C8.13)
---     leads-either     a step leads to the node itself, unless by double edges, or to a target (C8.11, C8.12)
---     node-some        where some node holds, there is one
---     target-some      where some target does, there is an edge to one
+--     start_says, entry_says, cover_says, range_says, step_says, enabling_says     each kind of condition (C8.7 to C8.11, C8.13)
+--     leads_either     a step leads to the node itself, unless by double edges, or to a target (C8.11, C8.12)
+--     node_some        where some node holds, there is one
+--     target_some      where some target does, there is an edge to one
 -- Assumes nothing.
 use mathlib.Core.Path.{◌≡◌, refl, subst}
 use mathlib.Core.Bool.{true, not, ◌&&◌, ◌||◌, and-eq-true_iff}

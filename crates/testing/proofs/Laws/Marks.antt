@@ -1,6 +1,6 @@
 -- A table of marks as it is filled, edge by edge: which nodes, or which pairs, the edges tried so far mark.
---     marked-none, marked-kept                     no edge is tried: none is marked, or what is kept
---     marked-hit, marked-miss, marked-end          an edge is carried, or not; all are tried
+--     marked_none, marked_kept                     no edge is tried: none is marked, or what is kept
+--     marked_hit, marked_miss, marked_end          an edge is carried, or not; all are tried
 -- Assumes nothing.
 use mathlib.Core.Path.{◌≡◌, refl, sym, ap, subst, ◌∙◌}
 use mathlib.Core.Bool.{Bool, true, false, cond, ◌&&◌, ◌||◌, or-false}

@@ -1,8 +1,8 @@
 -- Laws of the targets of a condition.
---     chosen_last, chosen-most, chosen-each     the places chosen: one node more, how many they are, what is true of each
---     some-chosen                               one of the places chosen holds where a marked node does
---     marked-some                               a marked node holds where the node that may be kept does, or a target of an edge carried
---     some-node, some-reached                   one of the places that a test has holds where one of the nodes that its condition names does
+--     chosen_last, chosen_most, chosen_each     the places chosen: one node more, how many they are, what is true of each
+--     some_chosen                               one of the places chosen holds where a marked node does
+--     marked_some                               a marked node holds where the node that may be kept does, or a target of an edge carried
+--     some_node_lem, some_reached                   one of the places that a test has holds where one of the nodes that its condition names does
 -- Assumes nothing.
 use mathlib.Core.Path.{◌≡◌, refl, sym, ap, ap₂, ◌∙◌}
 use mathlib.Core.Logic.{⊎_elim}

@@ -1,9 +1,9 @@
 -- Laws of prepared tests.
 --     prepared      the test of a condition says what the condition says
 --     test_fits     what it speaks of can be evaluated at every state
---     successors-pass     a test of each successor
---     denial-says, denial-fits             the test that a truth is false says so; it can be evaluated where the truth can
---     passes-vacuous, passes-concluded     a test passes where its premise does not hold, else by its conclusion
+--     successors_pass     a test of each successor
+--     denial_says, denial_fits             the test that a truth is false says so; it can be evaluated where the truth can
+--     passes_vacuous, passes_concluded     a test passes where its premise does not hold, else by its conclusion
 --     steps_apart     a conclusion that speaks of a transition is another than one that doesn't
 -- Assumes nothing.
 use mathlib.Core.Path.{◌≡◌, refl, sym, ap, ◌∙◌}

@@ -1,6 +1,6 @@
 -- Laws of tests that one of several numbers in a row passes.
---     any_none, any-hit, any_next     one step, as a loop takes it
---     any-first, any_last             one number more, before the others and behind them
+--     any_none, any_hit, any_next     one step, as a loop takes it
+--     any_first, any_last             one number more, before the others and behind them
 --     any_at, any_below               one number that passes is enough; from 0 on
 --     any_some, any_false             where one passes, there is such a one; where none does, each fails
 --     none_passes                     where each fails, none passes

@@ -1,6 +1,6 @@
 -- Laws of the search for the first number that fails a test.
---     first-is                             a number that fails behind others that pass is the first; so is n where all below it pass
---     first_passes, first-fails            the numbers below it pass; it fails itself where it is below n
+--     first_is                             a number that fails behind others that pass is the first; so is n where all below it pass
+--     first_passes, first_fails            the numbers below it pass; it fails itself where it is below n
 --     first_any                            one below n passes exactly if one is the first to fail the test that it doesn't
 -- Assumes nothing.
 use mathlib.Core.Path.{◌≡◌, refl, sym, ◌∙◌}

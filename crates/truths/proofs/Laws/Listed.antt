@@ -1,9 +1,9 @@
 -- Laws of lists: what is in one, and whether all of it passes a test.
---     all-pass-none, all-pass-more            the test of none, and of one more
---     all-pass-member, all-pass-each           where each passes, so does a member; where each member does, each passes
---     all-pass-fails                      where a member fails, not each passes
---     all-pass-same                       tests that agree at each member agree
---     tabulate-member, tabulated      what is in a table by number
+--     all_pass_none, all_pass_more            the test of none, and of one more
+--     all_pass_member, all_pass_each           where each passes, so does a member; where each member does, each passes
+--     all_pass_fails                      where a member fails, not each passes
+--     all_pass_same                       tests that agree at each member agree
+--     tabulate_member, tabulated      what is in a table by number
 -- Assumes nothing.
 use mathlib.Core.Path.{◌≡◌, refl, sym, subst, ap₂, ◌∙◌}
 use mathlib.Core.Logic.{inl, inr}

@@ -1,9 +1,9 @@
 -- Laws of tables.
---     tabulate-none, tabulate-more                    a table of no entry, and of one more
---     length-tabulate, get_d_tabulate, tabulate-at     how many entries a table has, and each; from number 0 on
---     table-tabulate                                  a table whose first n entries are given, as one that is given whole
---     length-table, table_at, table-beyond            how many entries it has, and each
---     table_none, table_more, table-rest              such a table as it is filled: none are; one more is; the entries left are what stands there already
+--     tabulate_none, tabulate_more                    a table of no entry, and of one more
+--     length_tabulate, get_d_tabulate, tabulate_at     how many entries a table has, and each; from number 0 on
+--     table_tabulate                                  a table whose first n entries are given, as one that is given whole
+--     length_table, table_at, table_beyond            how many entries it has, and each
+--     table_none, table_more, table_rest              such a table as it is filled: none are; one more is; the entries left are what stands there already
 -- Assumes nothing.
 use mathlib.Core.Path.{◌≡◌, refl, sym, ap, ap₂, subst, ◌∙◌}
 use mathlib.Core.Bool.{Bool, true, false, cond}

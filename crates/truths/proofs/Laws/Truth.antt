@@ -1,14 +1,14 @@
 -- Laws of Bool, as far as mathlib.Core.Bool lacks them.
---     passes-or-fails                 a truth is true or not
+--     passes_or_fails                 a truth is true or not
 --     by-test                         what is so in either case is so
---     is_true, so-true, is_false, so_false     `T b` and `b ≡ true` say the same, `T (not b)` and `b ≡ false` too
+--     is_true, so_true, is_false, so_false     `T b` and `b ≡ true` say the same, `T (not b)` and `b ≡ false` too
 --     same_truth                      truths that imply each other are equal
---     implies_true, implies-false     an implication, by its premise
---     implied, implies-or             what a true premise implies is true; the implication as a disjunction
---     implies-both, implies-own       an implication of an implication
---     and-asked                       a conjunction with a true part is the other
+--     implies_true, implies_false     an implication, by its premise
+--     implied, implies_or             what a true premise implies is true; the implication as a disjunction
+--     implies_both, implies_own       an implication of an implication
+--     and_asked                       a conjunction with a true part is the other
 --     both, left, right, either       conjunctions and disjunctions of truths
---     or-first, or-second, or-other, or_cases, or-neither     a disjunction is true by a part, and false where neither is true
+--     or_first, or_second, or_other, or_cases, or_neither     a disjunction is true by a part, and false where neither is true
 -- Assumes nothing.
 use mathlib.Core.Path.{◌≡◌, refl, sym}
 use mathlib.Core.Logic.{◌⊎◌, inl, inr}

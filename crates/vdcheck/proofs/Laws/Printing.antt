@@ -1,6 +1,6 @@
 -- Laws of the line that is printed.
---     printed-number     its first two digits are those of the number
---     printed-zero       it begins with 00 only where the number is 0 (C15.3)
+--     printed_number     its first two digits are those of the number
+--     printed_zero       it begins with 00 only where the number is 0 (C15.3)
 -- Assumes nothing.
 use mathlib.Core.Path.{◌≡◌, refl, sym, ◌∙◌}
 use mathlib.Core.Bool.{Bool, true, false, cond}

@@ -1,11 +1,11 @@
 -- Laws of the verdict on a readable file.
---     true-at, true-holds              a condition is true exactly if it holds at every number's state
---     Breaks, breaks-first             the first state that breaks a condition; one that is not true has it
---     judged-broken, judged-whole      the verdict where a condition is broken, those before it true; and where none is (C12.3, C12.2)
---     Broken, Whole, judged-cases      it is one of these two
---     check-short, check-long          a report buffer of under 32 bytes is refused with 1; with a longer one the verdict on the file is given (C10.1)
---     verdict-refused                  that of a file that reading refuses
---     verdict-startless, verdict-judged     of one whose parts are found, by whether there is a starting state (C10.20)
+--     true_at, true_holds              a condition is true exactly if it holds at every number's state
+--     Breaks, breaks_first             the first state that breaks a condition; one that is not true has it
+--     judged_broken, judged_whole      the verdict where a condition is broken, those before it true; and where none is (C12.3, C12.2)
+--     Broken, Whole, judged_cases      it is one of these two
+--     check_short, check_long          a report buffer of under 32 bytes is refused with 1; with a longer one the verdict on the file is given (C10.1)
+--     verdict_refused                  that of a file that reading refuses
+--     verdict_startless, verdict_judged     of one whose parts are found, by whether there is a starting state (C10.20)
 -- Assumes nothing.
 use mathlib.Core.Path.{◌≡◌, refl}
 use mathlib.Core.Logic.{◌⊎◌, inl, inr}

@@ -1,5 +1,6 @@
 // The verification conditions of a diagram: how many there are, and the condition of a number.
 #![tactic(auto)]
+
 ghost use Rattle.std.specs.Prelude.{◌≡◌, ◌≤◌, ◌<◌};
 ghost use Rattle.diagrams.specs.Diagram.{Loaded};
 ghost use Rattle.conditions.specs.Condition.{opening_of, total_of, condition_at, refusal_number, node_number, transition_number};

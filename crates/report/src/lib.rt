@@ -1,5 +1,6 @@
 // The report of a verdict: 32 bytes.
 #![tactic(auto)]
+
 ghost use Rattle.std.specs.Prelude.{◌≡◌, ◌++◌, ◌≤◌, length, take, drop};
 ghost use Rattle.report.specs.Report.{value_bytes, report_of};
 

@@ -1,5 +1,6 @@
 // Whether a condition holds at every state, by whole boxes of them: a box for which that is not seen at once is halved, a single state is tested.
 #![tactic(auto)]
+
 pub mod budget;
 pub mod scan;
 pub mod start;

@@ -1,5 +1,6 @@
 // A condition prepared for its tests: what does not depend on the state is looked up once.
 #![tactic(auto)]
+
 pub mod tests;
 
 ghost use Rattle.std.specs.Prelude.{◌≡◌, [], ◌∷◌, ℕ, ◌≤◌, ◌<◌, get_or};

@@ -1,5 +1,6 @@
 // The verdict on a file: the lowest broken condition with the lowest state that breaks it; and what a single test answers.
 #![tactic(auto)]
+
 ghost use Rattle.std.specs.Prelude.{◌≡◌, ◌≤◌};
 ghost use Rattle.diagrams.specs.Diagram.{Loaded};
 ghost use Rattle.conditions.specs.Condition.{node_number, transition_number};

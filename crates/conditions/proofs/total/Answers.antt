@@ -2,7 +2,6 @@
 -- Assumes nothing.
 use native.Mathlib.Omega.{arith}
 use Rattle.diagrams.proofs.Laws.Diagram.{promised}
-use Rattle.conditions.proofs.Laws.Condition.{Bounds}
 use Rattle.conditions.proofs.Steps.Condition.{laid_bounds, laid_total}
 use Rattle.conditions.proofs.total.Goals as goal
 

@@ -40,7 +40,7 @@ shape_of-report c = c.put_values.auto.report ∙ simp length-set
 
 pub returns : goal.returns
 unfolding report_of report_bytes
-returns c = 
+returns c =
     let v = c.args.verdict in
     let r = c.args.report.now in
     let bytes : List ℕ = v.number ∷ v.node ∷ v.transition ∷ 0 ∷ v.at % 256 ∷ v.at / 256 % 256 ∷ v.at / 65536 % 256 ∷ v.at / 16777216 ∷ [] in

@@ -1,13 +1,9 @@
 -- `searching::decide` meets its contract: what is known of both halves is known of the box. The measure is how often it may be halved.
 -- Assumes nothing.
-use mathlib.Core.Path.{◌≡◌, sym, ◌∙◌}
-use Prim.Native.Nat.{ℕ, suc, ◌-◌, ◌<◌}
+use mathlib.Core.Path.{sym, ◌∙◌}
 use native.Mathlib.Omega.{arith}
 use borrow.Author.Rules.{rules}
 use borrow.Author.Tests.{not-true, not-false}
-use lib.IntN.{pos}
-use lib.ListN.{get_or}
-use lib.Signed.{◌<ℤ◌}
 use Rattle.boxes.proofs.Laws.Half.{part_inside, low_inside}
 use Rattle.searching.proofs.Steps.Search.{positive, choice_asks, lower_is_part, upper_is_part}
 use Rattle.searching.proofs.Steps.Search.{decide_none, decide_spent, decide_single, decide_yes, decide_no, decide_first, decide_second}

@@ -1,11 +1,7 @@
 -- `searching::narrow` meets its contract. The measure is how often the box may be halved.
 -- Assumes nothing.
-use Prim.Native.Nat.{ℕ, ◌<◌}
 use native.Mathlib.Omega.{arith}
 use borrow.Author.Rules.{rules}
-use lib.IntN.{pos}
-use lib.ListN.{get_or}
-use lib.Signed.{◌<ℤ◌}
 use Rattle.searching.proofs.Steps.Search.{positive, wide_asks, lower_is_part, upper_is_part, narrow_none, narrow_single, narrow_upper, narrow_lower}
 use Rattle.searching.proofs.+narrow.Goals as goal
 

@@ -8,8 +8,7 @@ use Prim.Native.Nat.{ℕ}
 use lib.Dec.{ltb}
 use Rattle.truths.proofs.Laws.First.{first_any}
 use Rattle.diagrams.specs.declared.Diagram.{Diagram}
-use Rattle.diagrams.specs.Diagram.{Loaded, state_at}
-use Rattle.diagrams.specs.Truth.{start_holds}
+use Rattle.diagrams.specs.Diagram.{Loaded}
 use Rattle.diagrams.specs.Start.{starts_of}
 use Rattle.diagrams.proofs.Laws.Diagram.{promised}
 use Rattle.diagrams.proofs.Laws.Start.{starts_any}

@@ -10,15 +10,14 @@
 -- Assumes nothing.
 use mathlib.Core.Path.{◌≡◌, refl}
 use mathlib.Core.Logic.{inl, inr}
-use mathlib.Core.List.{List, [], ◌∷◌, ◌++◌}
-use Prim.Native.Nat.{ℕ, zero, suc, ◌+◌, ◌≤◌, ◌<◌}
+use mathlib.Core.List.{List, [], ◌∷◌}
+use Prim.Native.Nat.{ℕ, zero, suc, ◌+◌, ◌≤◌}
 use native.Mathlib.Omega.{arith}
 use lib.Dec.{lit<, lit≤}
-use lib.IntN.{ℤ}
 use Rattle.diagrams.specs.System.{next_states}
 use Rattle.diagrams.proofs.Files.{double, plain}
 use Rattle.diagrams.proofs.Values.{v, state}
-use Rattle.runs.specs.Run.{System, finite, endless, Taken, KJust}
+use Rattle.runs.specs.Run.{System, finite, Taken, KJust}
 use Rattle.soundness.specs.System.{system_of, Claim}
 use Rattle.soundness.proofs.Sharp.Computing.{claiming}
 use Rattle.soundness.proofs.Laws.System.{step_run, idle_run}

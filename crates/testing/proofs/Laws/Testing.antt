@@ -7,7 +7,7 @@
 --     steps_apart     a conclusion that speaks of a transition is another than one that doesn't
 -- Assumes nothing.
 use mathlib.Core.Path.{◌≡◌, refl, sym, ap, ◌∙◌}
-use mathlib.Core.Bool.{Bool, true, false, not, ◌&&◌, ◌||◌, or-false, false≢true}
+use mathlib.Core.Bool.{Bool, true, false, not, or-false, false≢true}
 use mathlib.Core.List.{List, [], ◌∷◌, ◌++◌}
 use Prim.Native.Nat.{ℕ, zero, suc, ◌-◌, ◌≤◌, ◌<◌}
 use native.Mathlib.Omega.{arith}
@@ -27,7 +27,7 @@ use Rattle.evaluating.specs.Fits.{TransitionFits}
 use Rattle.diagrams.specs.declared.Diagram.{Diagram}
 use Rattle.diagrams.specs.Diagram.{Loaded}
 use Rattle.diagrams.specs.Truth.{node_holds, claimed_at, q_at}
-use Rattle.diagrams.specs.System.{step_at, guard_holds, values_fit, is_enabled, next_states}
+use Rattle.diagrams.specs.System.{step_at, guard_holds, values_fit, next_states}
 use Rattle.diagrams.specs.Promise.{Promise}
 use Rattle.diagrams.proofs.Laws.Diagram.{promised}
 use Rattle.diagrams.proofs.Laws.Truth.{start_at, node_at, p_at, q_at_lem}
@@ -37,7 +37,7 @@ use Rattle.conditions.specs.Condition.{Listed}
 use Rattle.conditions.specs.declared.Condition.{Condition}
 use Rattle.conditions.specs.declared.Condition.TheVariants.{Start, Entry, Cover, Range, Step, Enabling}
 use Rattle.conditions.proofs.Laws.Condition.{Parts, listed_parts}
-use Rattle.testing.specs.Holding.{some_node, some_target, step_leads, condition_holds}
+use Rattle.testing.specs.Holding.{some_node, step_leads, condition_holds}
 use Rattle.testing.specs.declared.Conclusion.{Conclusion}
 use Rattle.testing.specs.declared.Test.{Test}
 use Rattle.testing.specs.Testing.{marks_of, chosen_from, targets_of, chosen_of, prepared_of, denial_of, test_of, some_holds, concludes_of, passes_of}

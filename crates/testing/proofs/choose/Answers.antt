@@ -24,9 +24,9 @@ pub loop-i-preserved : goal.loop-i-preserved
 loop-i-preserved c =
     let k = c.loop-i.invariant in
     let l = c.loop-i-test.true in
-    elim c.if-marks-i.branch
-    [ then-marks-i w ↦ rw (w.places-is, w.count-is) (choosing_more _ _ _ k l c.requires.most w.if-marks-i.true)
-    | else-marks-i w ↦ rw (w.places-is, w.count-is) (choosing_skip _ _ _ k l c.requires.most w.if-marks-i.false)
+    elim c.if-marks-i.branch [
+      | then-marks-i w ↦ rw (w.places-is, w.count-is) (choosing_more _ _ _ k l c.requires.most w.if-marks-i.true)
+      | else-marks-i w ↦ rw (w.places-is, w.count-is) (choosing_skip _ _ _ k l c.requires.most w.if-marks-i.false)
     ]
 
 pub returns : goal.returns

@@ -1,7 +1,6 @@
 -- `testing::marks` meets its contract: the marks are those that the edges passed make.
 -- Assumes nothing.
 use native.Mathlib.Omega.{arith}
-use Rattle.conditions.specs.Edges.{carries}
 use Rattle.testing.specs.Testing.{marks_of}
 use Rattle.testing.proofs.Laws.Marks.{marked_kept, marked_end}
 use Rattle.testing.proofs.Steps.Testing.{keeps, target_small, mark_hit, mark_miss}
@@ -29,9 +28,9 @@ loop-e-preserved c =
     let l = c.loop-e-test.true in
     let is = c.edge_of-edge.ensures in
     let cs = c.carries.ensures in
-    elim c.if-carries.branch
-    [ then-carries w ↦ rw w.marks-is (mark_hit _ _ r _ _ _ k l is cs w.if-carries.true)
-    | else-carries w ↦ rw w.marks-is (mark_miss _ _ r _ _ _ k l is cs w.if-carries.false)
+    elim c.if-carries.branch [
+      | then-carries w ↦ rw w.marks-is (mark_hit _ _ r _ _ _ k l is cs w.if-carries.true)
+      | else-carries w ↦ rw w.marks-is (mark_miss _ _ r _ _ _ k l is cs w.if-carries.false)
     ]
 
 pub returns : goal.returns

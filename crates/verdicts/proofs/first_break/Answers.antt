@@ -2,17 +2,13 @@
 -- Assumes nothing.
 use mathlib.Core.Bool.{true}
 use mathlib.Core.Path.{◌≡◌, ◌∙◌}
-use mathlib.Core.List.{List}
-use Prim.Native.Nat.{ℕ, ◌+◌, ◌*◌, ◌<◌, ◌≤◌}
+use Prim.Native.Nat.{◌+◌, ◌*◌, ◌≤◌}
 use native.Mathlib.Nat.{le_refl, le_of_lt}
-use lib.IntN.{ℤ}
 use native.Mathlib.Omega.{arith}
-use Rattle.conditions.specs.Condition.{condition_at}
-use Rattle.testing.specs.Holding.{condition_holds}
 use Rattle.testing.specs.Testing.{passes_of}
 use Rattle.testing.proofs.Laws.Testing.{passes_vacuous, passes_concluded}
 use Rattle.verdicts.proofs.Steps.Verdict.{Ready, states_small, total_small, tests_small, test_asks, named_asks}
-use Rattle.searching.proofs.Laws.Scan.{StatesPassed, pass_idle}
+use Rattle.searching.proofs.Laws.Scan.{pass_idle}
 use Rattle.verdicts.proofs.Steps.Verdict.{passed_begin, passed_asks, passed_more, passed_broke, skip_asks, passed_onward}
 use Rattle.verdicts.proofs.Steps.Verdict.{Broke, broke_small, searched_more, searched_broke, searched_end}
 use Rattle.verdicts.proofs.first_break.Goals as goal
@@ -75,10 +71,10 @@ pub states-smaller-then-ask-n : goal.states-smaller-then-ask-n
 states-smaller-then-ask-n c =
     let ready : Ready c.args.file.now c.args.diagram c.total-total.result = record { loaded = c.requires.loaded; total_is = c.total-total.ensures } in
     let test : passes_of c.args.diagram.low c.args.diagram.high c.args.file.now c.test_of-test.result c.states.state ≡ true =
-        elim c.if-holds.branch
-        [ then-holds+else-not-concludes w ↦ passes_concluded _ _ _ _ _ c.holds.ensures w.if-holds.true w.concludes.ensures ∙ w.if-not-concludes.false
-        | else-holds w ↦ passes_vacuous _ _ _ _ _ c.holds.ensures w.if-holds.false
-        ] in
+    elim c.if-holds.branch [
+      | then-holds+else-not-concludes w ↦ passes_concluded _ _ _ _ _ c.holds.ensures w.if-holds.true w.concludes.ensures ∙ w.if-not-concludes.false
+      | else-holds w ↦ passes_vacuous _ _ _ _ _ c.holds.ensures w.if-holds.false
+    ] in
     let moved = passed_more ready c.conditions-test.true c.condition_at-condition.ensures c.test_of-test.ensures c.states.invariant c.states-test.true test c.advance-next.ensures in
     let further = passed_onward ready c.conditions-test.true c.condition_at-condition.ensures c.test_of-test.ensures moved _ _ c.onward-to.ensures in
     omega (arith, further.1, c.states-test.true)
@@ -87,10 +83,10 @@ pub states-preserved-then-ask-n : goal.states-preserved-then-ask-n
 states-preserved-then-ask-n c =
     let ready : Ready c.args.file.now c.args.diagram c.total-total.result = record { loaded = c.requires.loaded; total_is = c.total-total.ensures } in
     let test : passes_of c.args.diagram.low c.args.diagram.high c.args.file.now c.test_of-test.result c.states.state ≡ true =
-        elim c.if-holds.branch
-        [ then-holds+else-not-concludes w ↦ passes_concluded _ _ _ _ _ c.holds.ensures w.if-holds.true w.concludes.ensures ∙ w.if-not-concludes.false
-        | else-holds w ↦ passes_vacuous _ _ _ _ _ c.holds.ensures w.if-holds.false
-        ] in
+    elim c.if-holds.branch [
+      | then-holds+else-not-concludes w ↦ passes_concluded _ _ _ _ _ c.holds.ensures w.if-holds.true w.concludes.ensures ∙ w.if-not-concludes.false
+      | else-holds w ↦ passes_vacuous _ _ _ _ _ c.holds.ensures w.if-holds.false
+    ] in
     let moved = passed_more ready c.conditions-test.true c.condition_at-condition.ensures c.test_of-test.ensures c.states.invariant c.states-test.true test c.advance-next.ensures in
     let further = passed_onward ready c.conditions-test.true c.condition_at-condition.ensures c.test_of-test.ensures moved _ _ c.onward-to.ensures in
     further.0
@@ -102,10 +98,10 @@ pub states-preserved : goal.states-preserved
 states-preserved c =
     let ready : Ready c.args.file.now c.args.diagram c.total-total.result = record { loaded = c.requires.loaded; total_is = c.total-total.ensures } in
     let test : passes_of c.args.diagram.low c.args.diagram.high c.args.file.now c.test_of-test.result c.states.state ≡ true =
-        elim c.if-holds.branch
-        [ then-holds+else-not-concludes w ↦ passes_concluded _ _ _ _ _ c.holds.ensures w.if-holds.true w.concludes.ensures ∙ w.if-not-concludes.false
-        | else-holds w ↦ passes_vacuous _ _ _ _ _ c.holds.ensures w.if-holds.false
-        ] in
+    elim c.if-holds.branch [
+      | then-holds+else-not-concludes w ↦ passes_concluded _ _ _ _ _ c.holds.ensures w.if-holds.true w.concludes.ensures ∙ w.if-not-concludes.false
+      | else-holds w ↦ passes_vacuous _ _ _ _ _ c.holds.ensures w.if-holds.false
+    ] in
     let moved = passed_more ready c.conditions-test.true c.condition_at-condition.ensures c.test_of-test.ensures c.states.invariant c.states-test.true test c.advance-next.ensures in
     moved
 
@@ -136,60 +132,60 @@ pub overflow_mul-number : goal.overflow_mul-number
 overflow_mul-number c =
     let ready : Ready c.args.file.now c.args.diagram c.total-total.result = record { loaded = c.requires.loaded; total_is = c.total-total.ensures } in
     let broke : Broke c.args.file.now c.args.diagram c.conditions.number c.conditions-test.state c.conditions-test.n =
-        elim c.conditions-test.branch
-        [ else-conditions-test w ↦ absurd (omega (arith, c.if-number-total.true, w.conditions-test.false))
-        | then-conditions-test+then-n-states w ↦
-            rw (w.state-is, w.n-is)
-            (elim w.states-test.branch
-            [ else-states-test v ↦ absurd (omega (arith, v.states-test.false, w.if-n-states.true))
+    elim c.conditions-test.branch [
+      | else-conditions-test w ↦ absurd (omega (arith, c.if-number-total.true, w.conditions-test.false))
+      | then-conditions-test+then-n-states w ↦
+          rw (w.state-is, w.n-is)
+          (elim w.states-test.branch [
+            | else-states-test v ↦ absurd (omega (arith, v.states-test.false, w.if-n-states.true))
             | then-states-test+then-holds+then-not-concludes v ↦
                 passed_broke ready c.if-number-total.true w.condition_at-condition.ensures w.test_of-test.ensures
                 w.states.invariant v.states-test.true
                 (passes_concluded _ _ _ _ _ v.holds.ensures v.if-holds.true v.concludes.ensures ∙ v.if-not-concludes.true)
-            ])
-        ] in
+          ])
+    ] in
     let fits : c.conditions.number * c.args.diagram.states + c.conditions-test.n + 1 ≤ 2183135233 =
-        omega (arith, tests_small ready (le_of_lt c.if-number-total.true), broke_small ready broke.1) in
+    omega (arith, tests_small ready (le_of_lt c.if-number-total.true), broke_small ready broke.1) in
     omega (arith, fits)
 
 pub overflow_add-number-then-number-total : goal.overflow_add-number-then-number-total
 overflow_add-number-then-number-total c =
     let ready : Ready c.args.file.now c.args.diagram c.total-total.result = record { loaded = c.requires.loaded; total_is = c.total-total.ensures } in
     let broke : Broke c.args.file.now c.args.diagram c.conditions.number c.conditions-test.state c.conditions-test.n =
-        elim c.conditions-test.branch
-        [ else-conditions-test w ↦ absurd (omega (arith, c.if-number-total.true, w.conditions-test.false))
-        | then-conditions-test+then-n-states w ↦
-            rw (w.state-is, w.n-is)
-            (elim w.states-test.branch
-            [ else-states-test v ↦ absurd (omega (arith, v.states-test.false, w.if-n-states.true))
+    elim c.conditions-test.branch [
+      | else-conditions-test w ↦ absurd (omega (arith, c.if-number-total.true, w.conditions-test.false))
+      | then-conditions-test+then-n-states w ↦
+          rw (w.state-is, w.n-is)
+          (elim w.states-test.branch [
+            | else-states-test v ↦ absurd (omega (arith, v.states-test.false, w.if-n-states.true))
             | then-states-test+then-holds+then-not-concludes v ↦
                 passed_broke ready c.if-number-total.true w.condition_at-condition.ensures w.test_of-test.ensures
                 w.states.invariant v.states-test.true
                 (passes_concluded _ _ _ _ _ v.holds.ensures v.if-holds.true v.concludes.ensures ∙ v.if-not-concludes.true)
-            ])
-        ] in
+          ])
+    ] in
     let fits : c.conditions.number * c.args.diagram.states + c.conditions-test.n + 1 ≤ 2183135233 =
-        omega (arith, tests_small ready (le_of_lt c.if-number-total.true), broke_small ready broke.1) in
+    omega (arith, tests_small ready (le_of_lt c.if-number-total.true), broke_small ready broke.1) in
     omega (arith, fits)
 
 pub overflow_add-number-then-number-total-2 : goal.overflow_add-number-then-number-total-2
 overflow_add-number-then-number-total-2 c =
     let ready : Ready c.args.file.now c.args.diagram c.total-total.result = record { loaded = c.requires.loaded; total_is = c.total-total.ensures } in
     let broke : Broke c.args.file.now c.args.diagram c.conditions.number c.conditions-test.state c.conditions-test.n =
-        elim c.conditions-test.branch
-        [ else-conditions-test w ↦ absurd (omega (arith, c.if-number-total.true, w.conditions-test.false))
-        | then-conditions-test+then-n-states w ↦
-            rw (w.state-is, w.n-is)
-            (elim w.states-test.branch
-            [ else-states-test v ↦ absurd (omega (arith, v.states-test.false, w.if-n-states.true))
+    elim c.conditions-test.branch [
+      | else-conditions-test w ↦ absurd (omega (arith, c.if-number-total.true, w.conditions-test.false))
+      | then-conditions-test+then-n-states w ↦
+          rw (w.state-is, w.n-is)
+          (elim w.states-test.branch [
+            | else-states-test v ↦ absurd (omega (arith, v.states-test.false, w.if-n-states.true))
             | then-states-test+then-holds+then-not-concludes v ↦
                 passed_broke ready c.if-number-total.true w.condition_at-condition.ensures w.test_of-test.ensures
                 w.states.invariant v.states-test.true
                 (passes_concluded _ _ _ _ _ v.holds.ensures v.if-holds.true v.concludes.ensures ∙ v.if-not-concludes.true)
-            ])
-        ] in
+          ])
+    ] in
     let fits : c.conditions.number * c.args.diagram.states + c.conditions-test.n + 1 ≤ 2183135233 =
-        omega (arith, tests_small ready (le_of_lt c.if-number-total.true), broke_small ready broke.1) in
+    omega (arith, tests_small ready (le_of_lt c.if-number-total.true), broke_small ready broke.1) in
     omega (arith, fits)
 
 pub named-requires : goal.named-requires
@@ -201,18 +197,18 @@ pub returns-then-number-total : goal.returns-then-number-total
 returns-then-number-total c =
     let ready : Ready c.args.file.now c.args.diagram c.total-total.result = record { loaded = c.requires.loaded; total_is = c.total-total.ensures } in
     let broke : Broke c.args.file.now c.args.diagram c.conditions.number c.conditions-test.state c.conditions-test.n =
-        elim c.conditions-test.branch
-        [ else-conditions-test w ↦ absurd (omega (arith, c.if-number-total.true, w.conditions-test.false))
-        | then-conditions-test+then-n-states w ↦
-            rw (w.state-is, w.n-is)
-            (elim w.states-test.branch
-            [ else-states-test v ↦ absurd (omega (arith, v.states-test.false, w.if-n-states.true))
+    elim c.conditions-test.branch [
+      | else-conditions-test w ↦ absurd (omega (arith, c.if-number-total.true, w.conditions-test.false))
+      | then-conditions-test+then-n-states w ↦
+          rw (w.state-is, w.n-is)
+          (elim w.states-test.branch [
+            | else-states-test v ↦ absurd (omega (arith, v.states-test.false, w.if-n-states.true))
             | then-states-test+then-holds+then-not-concludes v ↦
                 passed_broke ready c.if-number-total.true w.condition_at-condition.ensures w.test_of-test.ensures
                 w.states.invariant v.states-test.true
                 (passes_concluded _ _ _ _ _ v.holds.ensures v.if-holds.true v.concludes.ensures ∙ v.if-not-concludes.true)
-            ])
-        ] in
+          ])
+    ] in
     c.named.ensures
     ∙ searched_broke ready c.conditions.invariant c.if-number-total.true c.condition_at-broken.ensures broke (omega arith)
 

@@ -1,10 +1,7 @@
 -- `verdicts::tested` meets its contract: the condition's test at the state of the number.
 -- Assumes nothing.
-use mathlib.Core.Path.{◌≡◌, sym}
-use mathlib.Core.Bool.{cond}
+use mathlib.Core.Path.{sym}
 use native.Mathlib.Omega.{arith}
-use Rattle.verdicts.specs.Verdict.{single_judged}
-use Rattle.verdicts.specs.declared.Single.{Single}
 use Rattle.verdicts.proofs.Steps.Verdict.{Ready, test_asks, state_asks, single_asks, single_answers, tested_eleven, tested_twelve}
 use Rattle.verdicts.proofs.tested.Goals as goal
 
@@ -37,19 +34,19 @@ pub passes-requires : goal.passes-requires
 passes-requires c =
     let ready : Ready c.args.file.now c.args.diagram c.total.result = record { loaded = c.requires.loaded; total_is = c.total.ensures } in
     let asks = single_asks ready c.if-total-condition.false c.condition_at.ensures c.test_of-test.ensures c.if-diagram-state.false
-        c.state_of-s.ensures in
+    c.state_of-s.ensures in
     record { spans = c.requires.spans; within = asks.0; fits = asks.1 }
 
 pub returns-then-passes : goal.returns-then-passes
 returns-then-passes c =
     let ready : Ready c.args.file.now c.args.diagram c.total.result = record { loaded = c.requires.loaded; total_is = c.total.ensures } in
     let answers = single_answers ready c.if-total-condition.false c.condition_at.ensures c.test_of-test.ensures c.if-diagram-state.false
-        c.state_of-s.ensures c.passes.ensures in
+    c.state_of-s.ensures c.passes.ensures in
     sym (rw c.if-passes.true at answers)
 
 pub returns-else-passes : goal.returns-else-passes
 returns-else-passes c =
     let ready : Ready c.args.file.now c.args.diagram c.total.result = record { loaded = c.requires.loaded; total_is = c.total.ensures } in
     let answers = single_answers ready c.if-total-condition.false c.condition_at.ensures c.test_of-test.ensures c.if-diagram-state.false
-        c.state_of-s.ensures c.passes.ensures in
+    c.state_of-s.ensures c.passes.ensures in
     sym (rw c.if-passes.false at answers)

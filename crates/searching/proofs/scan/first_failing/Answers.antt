@@ -2,13 +2,12 @@
 -- Assumes nothing.
 use mathlib.Core.Path.{◌≡◌, refl, sym, ◌∙◌}
 use mathlib.Core.Bool.{true}
-use Prim.Native.Nat.{◌+◌, ◌≤◌}
 use native.Mathlib.Omega.{arith}
 use Rattle.testing.specs.Testing.{passes_of}
 use Rattle.testing.proofs.Laws.Testing.{passes_vacuous, passes_concluded}
 use Rattle.diagrams.proofs.Laws.Diagram.{promised}
 use Rattle.searching.specs.Scan.{failing_of}
-use Rattle.searching.proofs.Laws.Scan.{StatesPassed, pass_begin, pass_within, pass_idle, pass_more, onward_asks, pass_onward, pass_fails, pass_end}
+use Rattle.searching.proofs.Laws.Scan.{pass_begin, pass_within, pass_idle, pass_more, onward_asks, pass_onward, pass_fails, pass_end}
 use Rattle.searching.proofs.scan.first_failing.Goals as goal
 use Rattle.searching.proofs.scan.first_failing.Goals.{then-holds+else-not-concludes, else-holds}
 
@@ -46,11 +45,11 @@ onward-to-requires c =
 pub loop-n-smaller-then-ask-n : goal.loop-n-smaller-then-ask-n
 loop-n-smaller-then-ask-n c =
     let tested : passes_of c.args.diagram.low c.args.diagram.high c.args.file.now c.args.test c.loop-n.state ≡ true =
-        elim c.if-holds.branch
-        [ then-holds+else-not-concludes w ↦
-            passes_concluded _ _ _ _ _ c.holds.ensures w.if-holds.true w.concludes.ensures ∙ w.if-not-concludes.false
-        | else-holds w ↦ passes_vacuous _ _ _ _ _ c.holds.ensures w.if-holds.false
-        ] in
+    elim c.if-holds.branch [
+      | then-holds+else-not-concludes w ↦
+          passes_concluded _ _ _ _ _ c.holds.ensures w.if-holds.true w.concludes.ensures ∙ w.if-not-concludes.false
+      | else-holds w ↦ passes_vacuous _ _ _ _ _ c.holds.ensures w.if-holds.false
+    ] in
     let moved = pass_more _ _ c.requires.loaded c.loop-n.invariant c.loop-n-test.true tested c.advance-next.ensures in
     let further = pass_onward _ _ c.requires.loaded c.requires.fits (λ state. refl) moved _ _ c.onward-to.ensures in
     omega (arith, further.1, c.loop-n-test.true)
@@ -58,11 +57,11 @@ loop-n-smaller-then-ask-n c =
 pub loop-n-preserved-then-ask-n : goal.loop-n-preserved-then-ask-n
 loop-n-preserved-then-ask-n c =
     let tested : passes_of c.args.diagram.low c.args.diagram.high c.args.file.now c.args.test c.loop-n.state ≡ true =
-        elim c.if-holds.branch
-        [ then-holds+else-not-concludes w ↦
-            passes_concluded _ _ _ _ _ c.holds.ensures w.if-holds.true w.concludes.ensures ∙ w.if-not-concludes.false
-        | else-holds w ↦ passes_vacuous _ _ _ _ _ c.holds.ensures w.if-holds.false
-        ] in
+    elim c.if-holds.branch [
+      | then-holds+else-not-concludes w ↦
+          passes_concluded _ _ _ _ _ c.holds.ensures w.if-holds.true w.concludes.ensures ∙ w.if-not-concludes.false
+      | else-holds w ↦ passes_vacuous _ _ _ _ _ c.holds.ensures w.if-holds.false
+    ] in
     let moved = pass_more _ _ c.requires.loaded c.loop-n.invariant c.loop-n-test.true tested c.advance-next.ensures in
     let further = pass_onward _ _ c.requires.loaded c.requires.fits (λ state. refl) moved _ _ c.onward-to.ensures in
     further.0
@@ -73,11 +72,11 @@ loop-n-smaller c = omega (arith, c.loop-n-test.true)
 pub loop-n-preserved : goal.loop-n-preserved
 loop-n-preserved c =
     let tested : passes_of c.args.diagram.low c.args.diagram.high c.args.file.now c.args.test c.loop-n.state ≡ true =
-        elim c.if-holds.branch
-        [ then-holds+else-not-concludes w ↦
-            passes_concluded _ _ _ _ _ c.holds.ensures w.if-holds.true w.concludes.ensures ∙ w.if-not-concludes.false
-        | else-holds w ↦ passes_vacuous _ _ _ _ _ c.holds.ensures w.if-holds.false
-        ] in
+    elim c.if-holds.branch [
+      | then-holds+else-not-concludes w ↦
+          passes_concluded _ _ _ _ _ c.holds.ensures w.if-holds.true w.concludes.ensures ∙ w.if-not-concludes.false
+      | else-holds w ↦ passes_vacuous _ _ _ _ _ c.holds.ensures w.if-holds.false
+    ] in
     let moved = pass_more _ _ c.requires.loaded c.loop-n.invariant c.loop-n-test.true tested c.advance-next.ensures in
     moved
 

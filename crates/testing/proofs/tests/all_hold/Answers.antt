@@ -5,7 +5,6 @@ use native.Mathlib.Omega.{arith}
 use Rattle.truths.proofs.Laws.Answer.{if_taken, if_left}
 use Rattle.states.proofs.Laws.State.{ranges_low, at_idle}
 use Rattle.states.proofs.Laws.Between.{trying_first, trying_fails, trying_passes, trying_next, trying_less}
-use Rattle.testing.specs.Testing.{some_holds}
 use Rattle.testing.proofs.tests.all_hold.Goals as goal
 
 pub loop-places-init : goal.loop-places-init

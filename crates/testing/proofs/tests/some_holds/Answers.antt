@@ -26,13 +26,12 @@ returns-then-holds c =
 pub loop-i-preserved : goal.loop-i-preserved
 loop-i-preserved c =
     let size : length c.args.places ≡ 32 = search rules in
-    let enough : c.args.count ≤ length c.args.places = omega (arith, c.requires.most) in
-    (
-  omega arith,
-  sym (some_later _ _ _ _ enough _ c.loop-i-test.true
-      (sym c.holds.ensures ∙ c.if-holds.false))
-      ∙ c.loop-i.invariant.1,
-)
+    let enough : c.args.count ≤ length c.args.places = omega (arith, c.requires.most) in (
+      omega arith,
+      sym (some_later _ _ _ _ enough _ c.loop-i-test.true
+          (sym c.holds.ensures ∙ c.if-holds.false))
+          ∙ c.loop-i.invariant.1,
+    )
 
 pub returns : goal.returns
 returns c =

@@ -26,12 +26,11 @@ returns-then-sure c =
 pub loop-i-preserved : goal.loop-i-preserved
 loop-i-preserved c =
     let size : length c.args.places ≡ 32 = search rules in
-    let enough : c.args.count ≤ length c.args.places = omega (arith, c.requires.most) in
-    (
-  omega arith,
-  in_later _ _ _ _ enough _ _ c.loop-i.invariant.1
-      c.loop-i-test.true c.seen_in-here.ensures c.either-seen.ensures,
-)
+    let enough : c.args.count ≤ length c.args.places = omega (arith, c.requires.most) in (
+      omega arith,
+      in_later _ _ _ _ enough _ _ c.loop-i.invariant.1
+          c.loop-i-test.true c.seen_in-here.ensures c.either-seen.ensures,
+    )
 
 pub returns : goal.returns
 returns c =

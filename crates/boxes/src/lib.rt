@@ -1,5 +1,6 @@
 // Boxes of states: all states between a low and a high end in each variable. The ranges of a file's variables are such a box too.
 #![tactic(auto)]
+
 ghost use Rattle.std.specs.Prelude.{◌≡◌, ◌<◌, pos, get_or, ◌<ℤ◌};
 ghost use Rattle.boxes.specs.Half.{wide_of, choice_of, lower_of, upper_of};
 

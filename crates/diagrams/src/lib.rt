@@ -1,5 +1,6 @@
 // The diagram of a file, with its system, as judging speaks of them. What doesn't depend on a state is looked up once.
 #![tactic(auto)]
+
 ghost use Rattle.std.specs.Prelude.{◌≡◌, ℕ, ◌≤◌, ◌<◌, get_or};
 ghost use Rattle.shapes.specs.declared.Reading.{Reading};
 ghost use Rattle.diagrams.specs.Diagram.{found_of, assertions_of, diagram_of, Loaded, edge_of};

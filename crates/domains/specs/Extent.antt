@@ -4,7 +4,7 @@ use Rattle.std.specs.Int.Signed.{le_z, lt_z}
 use Rattle.integers.specs.declared.Interval.{Interval}
 use Rattle.integers.specs.Interval.{over_ends, bounds}
 use Rattle.integers.specs.Tests.{eq_z}
-use Rattle.intervals.specs.Interval.{interval, combine as combineOf, divide as divide_of}
+use Rattle.intervals.specs.Interval.{interval, combine as combine_of, divide as divide_of}
 use Rattle.domains.specs.declared.seen.Seen.{Seen}
 use Rattle.domains.specs.declared.seen.Seen.TheVariants.{Yes, No, Unsure}
 use Rattle.domains.specs.declared.extents.Extent.{Extent}
@@ -32,7 +32,7 @@ wider_of x y = cond (le_z (width_of y.span) (width_of x.span)) x.widest y.widest
 -- 12 sum, 13 difference, 14 product
 unfoldable pub combine_in : ℕ → Extent → Extent → Extent
 combine_in kind x y =
-    let k = over_ends (combineOf kind) x.span y.span in
+    let k = over_ends (combine_of kind) x.span y.span in
     extent_of k.low k.high (wider_of x y)
 
 -- whether it rises between low and high: a quotient does, a remainder where both have one quotient

@@ -1,5 +1,6 @@
 // What a transition does at a state. A transition stands at a record; its guard follows, then its updates.
 #![tactic(auto)]
+
 ghost use Rattle.std.specs.Prelude.{◌≡◌, true, ◌+◌, ◌*◌, ◌/◌, ◌<◌, ◌≤◌, length, set};
 ghost use Rattle.records.specs.Kind.{number as number_sort};
 ghost use Rattle.expressions.specs.Expression.{part_at};

@@ -1,5 +1,6 @@
 // The interval of every number expression, from the variables' ranges: refusal 8.
 #![tactic(auto)]
+
 ghost use Rattle.std.specs.Prelude.{◌≡◌, ◌+◌, ◌*◌, ◌≤◌, pos, length, ◌≤ℤ◌};
 ghost use Rattle.integers.specs.Interval.{over_ends};
 ghost use Rattle.integers.specs.Inside.{Bounded};

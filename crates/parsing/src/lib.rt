@@ -1,5 +1,6 @@
 // Parses a whole file, section by section: refusals 2 to 6 and 19, or its outline.
 #![tactic(auto)]
+
 ghost use Rattle.std.specs.Prelude.{◌≡◌, ◌+◌, ◌*◌, ◌≤◌, length};
 ghost use Rattle.parsing.specs.Outline.{nodes_parsed, property_parsed, transitions_parsed, start_parsed, parsed_of};
 

@@ -1,5 +1,6 @@
 // The ranges of a file's variables, by their ends. A variable that the file lacks has the range 0..0.
 #![tactic(auto)]
+
 ghost use Rattle.std.specs.Prelude.{◌≡◌, ◌≤◌};
 ghost use Rattle.ranges.specs.Range.{ends_of, lows_of, highs_of};
 

@@ -8,7 +8,7 @@ use lib.ListN.{take, drop, set, replicate}
 use Rattle.shapes.specs.declared.Reading.{Reading}
 use Rattle.reading.specs.Read.{read_of}
 use Rattle.reading.proofs.Computing.{reading}
-use Rattle.reading.proofs.Files.{bytes, given, entry, range, start, transition, assignment, pick, property, node, nodes, single, double}
+use Rattle.reading.proofs.Files.{bytes, given, entry, range, start, transition, assignment, pick, property, node, single, double}
 use Rattle.reading.proofs.Files.{constant, variable, plain, true, not, product, A, B, C, D, E, F, G, H, I, J, agree}
 
 -- ---- small files

@@ -1,5 +1,6 @@
 // Reading a file: its parts (crate parsing), then refusals 7, 22, 8, 9 and 10.
 #![tactic(auto)]
+
 ghost use Rattle.std.specs.Prelude.{◌≡◌};
 ghost use Rattle.reading.specs.Fits.{OutlineFits};
 ghost use Rattle.reading.specs.Read.{stages_read, read_of};

@@ -1,7 +1,7 @@
 -- Records for tables of examples, here and in the crates above: a file, or a part of one, is written as the list of its records.
 -- Assumes nothing.
 use mathlib.Core.Path.{◌≡◌, sym, ap, ◌∙◌}
-use mathlib.Core.List.{List, [], ◌∷◌, ◌++◌, map, Memᴰ, head-eq_of_cons-eq, tail-eq_of_cons-eq}
+use mathlib.Core.List.{List, [], ◌∷◌, map, Memᴰ, head-eq_of_cons-eq, tail-eq_of_cons-eq}
 use Prim.Native.Nat.{ℕ, ◌*◌, ◌/◌, ◌%◌}
 
 -- ---- tables

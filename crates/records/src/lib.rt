@@ -1,5 +1,6 @@
 // Records of 8 bytes, and their fields.
 #![tactic(auto)]
+
 pub mod kinds;
 pub mod walk;
 

@@ -23,7 +23,7 @@ abbrev pub unasked : ℕ
 unasked = 1048577
 
 unfoldable pub ask_of : Bool → ℕ
-ask_of byBoxes = cond byBoxes 1 unasked
+ask_of by_boxes = cond by_boxes 1 unasked
 
 -- 64 times as many boxes are asked as the number that they are asked from, but no more than is fair; after these, none
 unfoldable pub onward_of : List ℕ → List ℕ → Search → ℕ → Scan → Scan

@@ -1,5 +1,6 @@
 // The sections of a file: variables, transitions, property, nodes and edges, with the refusals 3 to 6 of their records and 19 of their expressions'.
 #![tactic(auto)]
+
 ghost use Rattle.std.specs.Prelude.{◌≡◌, ℕ, ◌+◌, ◌*◌, ◌/◌, ◌≤◌, ◌<◌, length, replicate};
 ghost use Rattle.records.specs.Place.{places_of};
 ghost use Rattle.sections.specs.Section.{variable_fields, transition_fields, assignment_fields, pick_fields, property_fields, edge_fields};

@@ -1,5 +1,6 @@
 // What every layer speaks of, as values: what a property asks, a row of a table; an edge; where the parts of a file stand; and what reading a file answers.
 #![tactic(auto)]
+
 ghost use Rattle.std.specs.Prelude.{◌≡◌};
 ghost use Rattle.shapes.specs.Property.{claim_of, property_of};
 ghost use Rattle.shapes.specs.Edge.{double_from};

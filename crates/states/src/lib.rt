@@ -1,5 +1,6 @@
 // States and their numbers. The ranges of the twelve variables are given by their low and high ends; a variable that the file lacks has the range 0..0.
 #![tactic(auto)]
+
 ghost use Rattle.std.specs.Prelude.{◌≡◌, ◌≤◌, ◌<◌, ◌≤ℤ◌};
 ghost use Rattle.states.specs.State.{Within};
 ghost use Rattle.states.specs.Ranges.{Ranges, Idle};

@@ -1,5 +1,6 @@
 // Where a transition leads from a box of states. A transition stands at a record; its guard follows, then its updates.
 #![tactic(auto)]
+
 ghost use Rattle.std.specs.Prelude.{◌≡◌, ◌+◌, ◌*◌, ◌/◌, ◌<◌, ◌≤◌, length, set};
 ghost use Rattle.integers.specs.Inside.{Bounded};
 ghost use Rattle.records.specs.Kind.{number as number_sort};

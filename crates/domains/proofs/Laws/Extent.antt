@@ -10,7 +10,6 @@ use mathlib.Core.Path.{◌≡◌, refl, sym}
 use mathlib.Core.Bool.{Bool, true, false, true≢false, not, cond, ◌&&◌}
 use Prim.Native.Nat.{ℕ}
 use lib.IntN.{ℤ, pos, ◌-ℤ◌}
-use lib.Dec.{eqb}
 use lib.Signed.{le_z, lt_z, ◌≤ℤ◌, ≤ℤ_refl}
 use mir.Syntax.{Width}
 use mir.Val.{SFits}
@@ -20,7 +19,7 @@ use Rattle.integers.specs.Inside.{In, Bounded}
 use Rattle.truths.proofs.Laws.Truth.{by-test}
 use Rattle.integers.proofs.Laws.Parts.{ints, within_fits}
 use Rattle.integers.proofs.Laws.Equality.{eq_z_true, eq_z_refl}
-use Rattle.intervals.specs.Interval.{interval, combine as combineOf, divide as divide_of}
+use Rattle.intervals.specs.Interval.{interval, combine as combine_of, divide as divide_of}
 use Rattle.intervals.proofs.Laws.Combine.{combine_in_lem, divide_by, quotient_ends, remainder_ends, remainder_below}
 use Rattle.expressions.specs.Expression.{indicator_of, compare_of}
 use Rattle.expressions.proofs.Laws.Connect.{indicator_true, indicator_false, compare_by}
@@ -81,8 +80,8 @@ indicator_bounded No = extent_bounded _ _ _
 indicator_bounded (Unsure v) = extent_bounded _ _ _
 
 -- ---- numbers
-pub combine_in_extent : (kind : ℕ) (x y : Extent) {a b : ℤ} → In (combineOf kind a b) bounds → In a x.span → In b y.span
-    → In (combineOf kind a b) (combine_in kind x y).span
+pub combine_in_extent : (kind : ℕ) (x y : Extent) {a b : ℤ} → In (combine_of kind a b) bounds → In a x.span → In b y.span
+    → In (combine_of kind a b) (combine_in kind x y).span
 unfolding combine_in
 combine_in_extent kind x y s h k = let c = combine_in_lem kind h k in extent_in _ _ _ s (record { above = c.above; below = c.below })
 

@@ -1,7 +1,6 @@
 -- `evaluating::assignment_at`: the value's expression fits, so its records are there; the table of lengths says where it ends. Assumes nothing.
-use Prim.Native.Nat.{◌+◌, ◌*◌, ◌≤◌}
+use Prim.Native.Nat.{◌+◌, ◌*◌}
 use native.Mathlib.Omega.{arith}
-use lib.ListN.{length, get_or}
 use mir.Syntax.{w64}
 use Rattle.integers.proofs.Laws.Parts.{back}
 use Rattle.records.specs.Kind.{number as number_sort}
@@ -47,7 +46,7 @@ overflow_add-result c = omega (arith, fits_here c.args.file.now (c.args.at + 1) 
 
 pub returns : goal.returns
 unfolding assignment_at
-returns c = 
+returns c =
     let x = c.number_at-value in
     rw (
       back w64 x.result x.type_inv,

@@ -1,8 +1,7 @@
 -- `evaluating::step`: a guard that is false ends it; behind one that is true the updates decide. Assumes nothing.
 use mathlib.Core.Path.{sym, ◌∙◌}
-use Prim.Native.Nat.{◌+◌, ◌*◌, ◌≤◌}
+use Prim.Native.Nat.{◌+◌, ◌*◌}
 use native.Mathlib.Omega.{arith}
-use lib.ListN.{length, get_or}
 use borrow.Author.Tests.{not-true, not-false}
 use Rattle.records.specs.Kind.{truth as truth_sort}
 use Rattle.evaluating.specs.Step.{guard_of}
@@ -30,7 +29,7 @@ truth_at-requires c =
 
 pub returns-then-not-truth_at : goal.returns-then-not-truth_at
 unfolding guard_of
-returns-then-not-truth_at c = 
+returns-then-not-truth_at c =
     step_off _ _ _ _ _
     ((rw (take_rest (8 * (c.args.at + 1)) c.args.file.now) at (sym c.truth_at.ensures)) ∙ not-true _ c.if-not-truth_at.true-raw)
 
@@ -47,7 +46,7 @@ pub overflow_add-from-2 : goal.overflow_add-from-2
 overflow_add-from-2 c = omega (arith, fits_here c.args.file.now (c.args.at + 1) 16 truth_sort c.args.state c.requires.fits.guard, behind_within _ _ c.requires.spans truth_sort (c.args.at + 1) _ c.requires.fits.guard)
 
 pub updates-found-requires : goal.updates-found-requires
-updates-found-requires c = 
+updates-found-requires c =
     record { spans = c.requires.spans; fits = rw (behind_is _ _ c.requires.spans truth_sort (c.args.at + 1) _ c.requires.fits.guard) c.requires.fits.updates }
 
 pub returns : goal.returns

@@ -2,12 +2,10 @@
 -- Assumes nothing.
 use borrow.Author.Tests.{not-true, not-false}
 use mathlib.Core.Path.{◌≡◌, sym, ◌∙◌}
-use mathlib.Core.Bool.{true}
-use Prim.Native.Nat.{suc, ◌-◌, ◌<◌}
+use Prim.Native.Nat.{suc, ◌-◌}
 use native.Mathlib.Omega.{arith}
 use mir.Syntax.{w64}
 use Rattle.integers.proofs.Laws.Parts.{back}
-use Rattle.sections.specs.Section.{is_update}
 use Rattle.evaluating.proofs.Laws.Transition.{fits_more}
 use Rattle.evaluating.proofs.Steps.Transition.{left_begins, left_none, left_end, left_variable, left_low, left_high, left_more}
 use Rattle.evaluating.proofs.updates.Goals as goal

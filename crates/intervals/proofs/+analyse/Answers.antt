@@ -1,12 +1,8 @@
 -- `intervals::analyse`: the record at hand is judged by its operands (`record_analysed`), each by a call with one level less. The measure is the levels
 -- left.
 -- Assumes nothing.
-use native.Mathlib.Omega.{arith}
-use mathlib.Core.Path.{◌≡◌, sym, ◌∙◌}
-use Prim.Native.Nat.{ℕ, ◌-◌}
+use mathlib.Core.Path.{sym, ◌∙◌}
 use Rattle.intervals.proofs.Steps.Interval.{analyse_deep, analyse_short, analyse_step, by_none, by_out, by_one, by_two_out, by_two, own_same}
-use Rattle.intervals.specs.declared.Analysis.{Analysis}
-use Rattle.intervals.specs.Interval.{by_operands, analysis_of}
 use Rattle.intervals.proofs.Laws.Interval.{analysis_bounded}
 use Rattle.intervals.proofs.+analyse.Goals as goal
 

@@ -36,12 +36,12 @@ lower-requires t c =
 pub decide-first-requires : goal.decide-first-requires
 decide-first-requires t c =
     let halved = choice_asks _ (search rules) (search rules) c.first_wide-wide.ensures c.if-wide-ge12.false _ c.choice-v.ensures in
-    ?
+    (omega (arith, c.if-depth-eq0.false, c.decreases), (c.requires.spans, (c.requires.fits, lower_is_part c.requires.part halved c.lower.ensures)))
 
 pub returns-then-not-first : goal.returns-then-not-first
 returns-then-not-first t c =
     decide_first _ _ _ (positive c.if-depth-eq0.false) (positive c.if-budget-eq0.false) c.first_wide-wide.ensures c.if-wide-ge12.false (sym c.passes_in-seen.ensures ∙ c.in-Unsure.is) c.choice-v.ensures
-    c.lower.ensures c.decide-first.ensures (not-true _ ?)
+    c.lower.ensures c.decide-first.ensures (not-true _ c.if-not-first.true)
 
 pub upper-requires : goal.upper-requires
 upper-requires t c =
@@ -51,7 +51,7 @@ upper-requires t c =
 pub decide-requires : goal.decide-requires
 decide-requires t c =
     let halved = choice_asks _ (search rules) (search rules) c.first_wide-wide.ensures c.if-wide-ge12.false _ c.choice-v.ensures in
-    ?
+    (omega (arith, c.if-depth-eq0.false, c.decreases), (c.requires.spans, (c.requires.fits, upper_is_part c.requires.part halved c.upper.ensures)))
 
 pub returns-in-Yes : goal.returns-in-Yes
 returns-in-Yes t c = decide_yes _ _ _ (positive c.if-depth-eq0.false) (positive c.if-budget-eq0.false) c.first_wide-wide.ensures c.if-wide-ge12.false (sym c.passes_in-seen.ensures ∙ c.in-Yes.is)
@@ -62,4 +62,4 @@ returns-in-No t c = decide_no _ _ _ (positive c.if-depth-eq0.false) (positive c.
 pub returns-else-not-first : goal.returns-else-not-first
 returns-else-not-first t c =
     decide_second _ _ _ (positive c.if-depth-eq0.false) (positive c.if-budget-eq0.false) c.first_wide-wide.ensures c.if-wide-ge12.false (sym c.passes_in-seen.ensures ∙ c.in-Unsure.is) c.choice-v.ensures
-    c.lower.ensures c.decide-first.ensures (not-false _ ?) c.upper.ensures c.decide.ensures
+    c.lower.ensures c.decide-first.ensures (not-false _ c.if-not-first.false) c.upper.ensures c.decide.ensures

@@ -33,7 +33,7 @@ upper-requires t c =
 pub narrow-requires : goal.narrow-requires
 narrow-requires t c =
     let halved = wide_asks _ (search rules) (search rules) c.first_wide-wide.ensures c.if-wide-ge12.false in
-    ?
+    (omega (arith, c.if-depth-eq0.false, c.decreases), (c.requires.spans, (c.requires.fits, upper_is_part c.requires.part halved c.upper.ensures)))
 
 pub returns-then-found : goal.returns-then-found
 returns-then-found t c =
@@ -42,7 +42,7 @@ returns-then-found t c =
 pub narrow-requires-2 : goal.narrow-requires-2
 narrow-requires-2 t c =
     let halved = wide_asks _ (search rules) (search rules) c.first_wide-wide.ensures c.if-wide-ge12.false in
-    ?
+    (omega (arith, c.if-depth-eq0.false, c.decreases), (c.requires.spans, (c.requires.fits, lower_is_part c.requires.part halved c.lower-half.ensures)))
 
 pub returns : goal.returns
 returns t c =

@@ -3,7 +3,6 @@
 use native.Mathlib.Omega.{arith}
 use mathlib.Core.Path.{refl, sym, ◌∙◌}
 use Rattle.sections.specs.Section.{repeated_of}
-use Rattle.records.specs.Record.{same_bytes}
 use Rattle.truths.proofs.Laws.Any.{any_none, any_hit, any_next}
 use Rattle.truths.proofs.Laws.Answer.{if_taken, if_left}
 use Rattle.sections.proofs.repeated.Goals as goal

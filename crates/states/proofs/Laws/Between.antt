@@ -4,8 +4,8 @@
 --     between_rises, between_ascends     they are listed by their numbers, also those in wider ranges, so that none is there twice (C5.6)
 --     Trying, trying_first, trying_fails, trying_passes, trying_next, trying_less     a test of each, one after the other by the move forward
 -- Assumes nothing.
-use mathlib.Core.Path.{◌≡◌, refl, sym, ap, ◌∙◌}
-use mathlib.Core.Bool.{Bool, true, false, ◌&&◌, and-true}
+use mathlib.Core.Path.{◌≡◌, refl, sym, ◌∙◌}
+use mathlib.Core.Bool.{Bool, true, false, ◌&&◌}
 use mathlib.Core.List.{List, [], ◌∷◌}
 use Prim.Native.Nat.{ℕ, zero, suc, ◌+◌, ◌-◌, ◌<◌}
 use native.Mathlib.Nat.{zero-add}

@@ -7,20 +7,6 @@ use Rattle.verdicts.specs.Verdict.{single_judged}
 use Rattle.verdicts.specs.declared.Single.{Single}
 use Rattle.verdicts.proofs.Steps.Verdict.{Ready, test_asks, state_asks, single_asks, single_answers, tested_eleven, tested_twelve}
 use Rattle.verdicts.proofs.tested.Goals as goal
-use Rattle.verdicts.proofs.tested.Goals.{After-condition_at, After-passes, After-total}
-
-ready : (c : After-total) → Ready c.args.file.now c.args.diagram c.total.result
-ready c = record { loaded = c.requires.loaded; total_is = c.total.ensures }
-
-abbrev looked_up : After-condition_at → After-total
-looked_up c = c.before.before.before.before.before.before
-
-answers : (c : After-passes)
-    → let s = (looked_up c.before.before.before).before.before in
-    single_judged s.args.file.now s.args.diagram s.args.condition s.args.state ≡ cond c.passes.result Single.Holds Single.Fails
-answers c =
-    single_answers (ready (looked_up c.before.before.before)) c.if-total-condition.false c.condition_at.ensures
-    c.test_of-test.ensures c.if-diagram-state.false c.state_of-s.ensures c.passes.ensures
 
 pub returns-then-total-condition : goal.returns-then-total-condition
 returns-then-total-condition c = sym (tested_eleven _ _ _ _ (omega (arith, c.total.ensures, c.if-total-condition.true)))
@@ -37,17 +23,33 @@ condition_at-requires c =
 
 pub test_of-test-requires : goal.test_of-test-requires
 test_of-test-requires c =
-    test_asks (ready (c.before.before.before.before.before.before)) c.if-total-condition.false c.condition_at.ensures
+    let ready : Ready c.args.file.now c.args.diagram c.total.result = record { loaded = c.requires.loaded; total_is = c.total.ensures } in
+    let asks = test_asks ready c.if-total-condition.false c.condition_at.ensures in
+    record { loaded = asks.0; listed = asks.1 }
 
 pub state_of-s-requires : goal.state_of-s-requires
-state_of-s-requires c = state_asks (ready (c.before.before.before.before.before.before.before)) c.if-diagram-state.false
+state_of-s-requires c =
+    let ready : Ready c.args.file.now c.args.diagram c.total.result = record { loaded = c.requires.loaded; total_is = c.total.ensures } in
+    let asks = state_asks ready c.if-diagram-state.false in
+    record { ranges = asks.0; below = asks.1 }
 
 pub passes-requires : goal.passes-requires
 passes-requires c =
-    (c.requires.spans, single_asks (ready (c.before.before.before.before.before.before.before.before)) c.if-total-condition.false c.condition_at.ensures c.test_of-test.ensures c.if-diagram-state.false c.state_of-s.ensures)
+    let ready : Ready c.args.file.now c.args.diagram c.total.result = record { loaded = c.requires.loaded; total_is = c.total.ensures } in
+    let asks = single_asks ready c.if-total-condition.false c.condition_at.ensures c.test_of-test.ensures c.if-diagram-state.false
+        c.state_of-s.ensures in
+    record { spans = c.requires.spans; within = asks.0; fits = asks.1 }
 
 pub returns-then-passes : goal.returns-then-passes
-returns-then-passes c = sym (rw c.if-passes.true at (answers (c.before)))
+returns-then-passes c =
+    let ready : Ready c.args.file.now c.args.diagram c.total.result = record { loaded = c.requires.loaded; total_is = c.total.ensures } in
+    let answers = single_answers ready c.if-total-condition.false c.condition_at.ensures c.test_of-test.ensures c.if-diagram-state.false
+        c.state_of-s.ensures c.passes.ensures in
+    sym (rw c.if-passes.true at answers)
 
 pub returns-else-passes : goal.returns-else-passes
-returns-else-passes c = sym (rw c.if-passes.false at (answers (c.before)))
+returns-else-passes c =
+    let ready : Ready c.args.file.now c.args.diagram c.total.result = record { loaded = c.requires.loaded; total_is = c.total.ensures } in
+    let answers = single_answers ready c.if-total-condition.false c.condition_at.ensures c.test_of-test.ensures c.if-diagram-state.false
+        c.state_of-s.ensures c.passes.ensures in
+    sym (rw c.if-passes.false at answers)

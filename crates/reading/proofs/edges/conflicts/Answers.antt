@@ -2,7 +2,6 @@
 use mathlib.Core.Path.{refl, sym, ap, ◌∙◌}
 use native.Mathlib.Omega.{arith}
 use Rattle.shapes.specs.declared.Edge.{Edge}
-use Rattle.sections.specs.Section.{edge_at}
 use Rattle.truths.proofs.Laws.Any.{any_none, any_hit, any_next}
 use Rattle.reading.specs.Edge.{conflict_of}
 use Rattle.reading.proofs.edges.conflicts.Goals as goal

@@ -1,7 +1,6 @@
 -- `reading::edges::doubled`: none of the edges tried so far is a double one from the node, so the search goes on among those left.
 use mathlib.Core.Path.{refl, sym, ap, ◌∙◌}
 use native.Mathlib.Omega.{arith}
-use Rattle.sections.specs.Section.{edge_at}
 use Rattle.truths.proofs.Laws.Any.{any_none, any_hit, any_next}
 use Rattle.shapes.specs.Edge.{double_from}
 use Rattle.reading.specs.Edge.{doubled_of}

@@ -1,12 +1,11 @@
 -- `reading::edges::just`: the table has the transition's place, which is within the file.
 -- Assumes nothing.
-use mathlib.Core.Path.{◌≡◌, ap, ◌∙◌}
-use mathlib.Core.List.{List}
-use Prim.Native.Nat.{ℕ, ◌+◌, ◌*◌, ◌/◌, ◌≤◌}
+use mathlib.Core.Path.{ap, ◌∙◌}
+use Prim.Native.Nat.{ℕ, ◌+◌, ◌*◌}
 use native.Mathlib.Omega.{arith}
 use lib.Dec.{eqb}
-use lib.ListN.{length, get_or}
-use Rattle.reading.specs.Edge.{transition_at, just_of}
+use lib.ListN.{get_or}
+use Rattle.reading.specs.Edge.{just_of}
 use Rattle.reading.proofs.Steps.Edge.{transition_within, transition_entry}
 use Rattle.reading.proofs.edges.just.Goals as goal
 

@@ -1,12 +1,8 @@
 -- `records::walk::walk` meets its contract, by the tests in their order; in the loop the operands left say what all of them do. The measure is the
 -- levels left. Assumes nothing.
-use mathlib.Core.Path.{◌≡◌, sym, ◌∙◌}
-use native.Mathlib.Omega.{arith}
+use mathlib.Core.Path.{sym, ◌∙◌}
 use Rattle.records.proofs.Steps.Walk.{operands_ends, operands_refused, operands_none, walk_short, walk_unfit, walk_field, walk_deep, walk_divisor}
 use Rattle.records.proofs.Steps.Walk.{walk_step}
-use Rattle.records.specs.Kind.{sort_for}
-use Rattle.records.specs.Walk.{operands_of, walk_of}
-use Prim.Native.Nat.{ℕ, ◌+◌, ◌-◌}
 use Rattle.records.proofs.walk.+walk.Goals as goal
 
 pub returns-then-file-at : goal.returns-then-file-at

@@ -7,11 +7,6 @@ use native.Mathlib.Omega.{arith}
 use lib.ListN.{length}
 use Rattle.testing.proofs.Steps.Testing.{some_end, some_here, some_later}
 use Rattle.testing.proofs.tests.some_holds.Goals as goal
-use Rattle.testing.proofs.tests.some_holds.Goals.{Start}
-
--- the array has 32 places
-enough : (s : Start) → s.args.count ≤ length s.args.places
-enough s = let l : length s.args.places ≡ 32 = search rules in omega (arith, s.requires.most)
 
 pub loop-i-init : goal.loop-i-init
 loop-i-init c = (omega arith, refl)
@@ -21,18 +16,26 @@ holds-requires c = let p = c.requires in record { fits = p.fits c.loop-i.i c.loo
 
 pub returns-then-holds : goal.returns-then-holds
 returns-then-holds c =
+    let size : length c.args.places ≡ 32 = search rules in
+    let enough : c.args.count ≤ length c.args.places = omega (arith, c.requires.most) in
     sym
     (sym c.loop-i.invariant.1
-    ∙ some_here _ _ _ _ (enough c.before.before.before.before.before) _ c.loop-i-test.true
+    ∙ some_here _ _ _ _ enough _ c.loop-i-test.true
     (sym c.holds.ensures ∙ c.if-holds.true))
 
 pub loop-i-preserved : goal.loop-i-preserved
-loop-i-preserved c = (
+loop-i-preserved c =
+    let size : length c.args.places ≡ 32 = search rules in
+    let enough : c.args.count ≤ length c.args.places = omega (arith, c.requires.most) in
+    (
   omega arith,
-  sym (some_later _ _ _ _ (enough c.before.before.before.before.before) _ c.loop-i-test.true
+  sym (some_later _ _ _ _ enough _ c.loop-i-test.true
       (sym c.holds.ensures ∙ c.if-holds.false))
       ∙ c.loop-i.invariant.1,
 )
 
 pub returns : goal.returns
-returns c = sym (sym c.loop-i.invariant.1 ∙ some_end _ _ _ _ (enough c.before.before.before) _ c.loop-i-test.false)
+returns c =
+    let size : length c.args.places ≡ 32 = search rules in
+    let enough : c.args.count ≤ length c.args.places = omega (arith, c.requires.most) in
+    sym (sym c.loop-i.invariant.1 ∙ some_end _ _ _ _ enough _ c.loop-i-test.false)

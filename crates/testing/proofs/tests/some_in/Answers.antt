@@ -8,11 +8,6 @@ use lib.ListN.{length}
 use Rattle.domains.proofs.Laws.Seen.{none_either}
 use Rattle.testing.proofs.Steps.Testing.{in_end, in_later, in_sure}
 use Rattle.testing.proofs.tests.some_in.Goals as goal
-use Rattle.testing.proofs.tests.some_in.Goals.{Start}
-
--- the array has 32 places
-enough : (s : Start) → s.args.count ≤ length s.args.places
-enough s = let l : length s.args.places ≡ 32 = search rules in omega (arith, s.requires.most)
 
 pub loop-i-init : goal.loop-i-init
 loop-i-init c = (omega arith, none_either _)
@@ -22,16 +17,24 @@ seen_in-here-requires c = let p = c.requires in record { fits = p.fits c.loop-i.
 
 pub returns-then-sure : goal.returns-then-sure
 returns-then-sure c =
-    in_sure _ _ _ _ (enough c.before.before.before.before.before.before.before) _ _ c.loop-i.invariant.1
+    let size : length c.args.places ≡ 32 = search rules in
+    let enough : c.args.count ≤ length c.args.places = omega (arith, c.requires.most) in
+    in_sure _ _ _ _ enough _ _ c.loop-i.invariant.1
     c.loop-i-test.true c.seen_in-here.ensures c.either-seen.ensures
     (sym c.sure.ensures ∙ c.if-sure.true)
 
 pub loop-i-preserved : goal.loop-i-preserved
-loop-i-preserved c = (
+loop-i-preserved c =
+    let size : length c.args.places ≡ 32 = search rules in
+    let enough : c.args.count ≤ length c.args.places = omega (arith, c.requires.most) in
+    (
   omega arith,
-  in_later _ _ _ _ (enough c.before.before.before.before.before.before.before) _ _ c.loop-i.invariant.1
+  in_later _ _ _ _ enough _ _ c.loop-i.invariant.1
       c.loop-i-test.true c.seen_in-here.ensures c.either-seen.ensures,
 )
 
 pub returns : goal.returns
-returns c = in_end _ _ _ _ (enough c.before.before.before) _ _ c.loop-i.invariant.1 c.loop-i-test.false
+returns c =
+    let size : length c.args.places ≡ 32 = search rules in
+    let enough : c.args.count ≤ length c.args.places = omega (arith, c.requires.most) in
+    in_end _ _ _ _ enough _ _ c.loop-i.invariant.1 c.loop-i-test.false

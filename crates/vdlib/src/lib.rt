@@ -1,5 +1,6 @@
 // The library for C and Rust: the check and the single test over plain bytes, whose answers are plain numbers.
 #![tactic(auto)]
+
 ghost use Rattle.std.specs.Prelude.{◌≡◌, length};
 ghost use Rattle.verdicts.specs.Verdict.{check_of, single_of};
 ghost use Rattle.deciding.specs.Decision.{Decides};

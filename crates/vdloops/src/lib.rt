@@ -1,5 +1,6 @@
 // The check by the labelled loops alone, for the benchmark: what whole boxes of states gain is measured against it.
 #![tactic(auto)]
+
 ghost use Rattle.std.specs.Prelude.{◌≡◌};
 ghost use Rattle.verdicts.specs.Verdict.{verdict_of};
 

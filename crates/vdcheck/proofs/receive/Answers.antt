@@ -1,5 +1,5 @@
 -- A read puts what it gives behind what was read before.
-use Rattle.std.proofs.Common.{rules, ◌+◌, ◌++◌, List, ℕ, take, drop, sym, ap, subst, ◌∙◌}
+use Rattle.std.proofs.Common.{rules, ◌++◌, List, ℕ, take, drop, sym, ap, subst, ◌∙◌}
 use Rattle.std.proofs.Math.Seq.{take-add}
 use Rattle.std.proofs.KnownBytes.{Consumes-trans}
 use Rattle.std.specs.Io.KnownBytes.{Consumes}

@@ -1,6 +1,5 @@
 -- The report and the tests are the check's, and the line is the report's.
-use Rattle.std.proofs.Common.{◌≡◌, ap, ◌∙◌, replicate}
-use Rattle.verdicts.specs.Verdict.{check_of}
+use Rattle.std.proofs.Common.{ap, ◌∙◌, replicate}
 use Rattle.report.specs.Report.{report_of}
 use Rattle.report.specs.declared.Verdict.{Verdict}
 use Rattle.vdcheck.specs.Printing.{line_of, printed_of}

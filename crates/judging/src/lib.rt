@@ -1,5 +1,6 @@
 // Judging a file: the check of every condition at every state, with its report, and the test of one condition at one state.
 #![tactic(auto)]
+
 ghost use Rattle.std.specs.Prelude.{◌≡◌, length};
 ghost use Rattle.verdicts.specs.Verdict.{check_of, single_of};
 ghost use Rattle.deciding.specs.Decision.{Decides};

@@ -48,7 +48,7 @@ fn tests_asked(count: usize, argument: &[u8]) -> bool
     count == 2 && argument == b"--tests".as_slice()
 }
 
-// How many arguments there are, the program's own name among them.
+// How many arguments there are, the program's own name among them. No contract can say how many a program was given, so this one has none.
 fn argument_count<R: Env>(rt: &R) -> usize {
     for i in 0..usize::MAX {
         if let Err(FillError::NotPresent) = rt.arg(i, &mut []) {

@@ -2,6 +2,7 @@
 -- Assumes nothing.
 use borrow.Author.Tests.{eq-eqb, ne_eqb, lt-leb}
 use mathlib.Core.Path.{sym, ◌∙◌}
+use native.Mathlib.Omega.{arith}
 use Rattle.parsing.specs.Outline.{parsed_of}
 use Rattle.sections.proofs.Laws.Counted.{variables_limit}
 use Rattle.parsing.proofs.Steps.Outline.{variables_counted, variables_refused}
@@ -20,9 +21,9 @@ parse_start-requires c = variables_limit _ _ _ (sym c.variables-found.ensures �
 
 pub returns-in-Items : goal.returns-in-Items
 returns-in-Items c =
-    variables_counted _ c.if-file-ne0.false c.if-file-gt32768.false c.variables-found.ensures c.in-Items.is
+    variables_counted _ (omega arith) (omega arith) c.variables-found.ensures c.in-Items.is
     c.parse_start.ensures
 
 pub returns-in-Refused : goal.returns-in-Refused
 returns-in-Refused c =
-    variables_refused _ c.if-file-ne0.false c.if-file-gt32768.false c.variables-found.ensures c.in-Refused.is
+    variables_refused _ (omega arith) (omega arith) c.variables-found.ensures c.in-Refused.is

@@ -1,7 +1,7 @@
 #!/usr/bin/env python3
 """Brings the repository's own definitions and lemmas to snake case: capitals inside a word and dashes become underscores.
 
-usage: tools/respell.py [--list]     at the top of the repository, once, after /opt/rattle/port/port.py
+usage: tools/respell.py [--list]     at the top of the repository, once, after port.py of the kit
 
 Types, facts, modules and the names of src/ keep their spelling, and so do names that Rattle makes (a goal's, a step's) and the library's.
 --list prints the table, and which new names stood already, and changes nothing.

@@ -1,51 +1,40 @@
--- The search for the first wide variable: those before i have one value each.
+-- The first variable with more than one value: those before it have one each.
 -- Assumes nothing.
-use mathlib.Core.Path.{◌≡◌, sym, ◌∙◌}
-use mathlib.Core.Bool.{true, false}
-use mathlib.Core.List.{List}
-use Prim.Native.Nat.{ℕ, suc, ◌+◌, ◌<◌, ◌≤◌}
+use mathlib.Core.Path.{◌≡◌, refl, ap}
+use mathlib.Core.Bool.{Bool, true, false}
+use mathlib.Core.List.{List, [], ◌∷◌}
+use Prim.Native.Nat.{ℕ, zero, suc, ◌<◌}
 use native.Mathlib.Omega.{arith}
 use lib.IntN.{ℤ, pos}
-use lib.ListN.{length, drop, get_or, drop_of_length-le}
-use lib.Seq.{drop-cons}
+use lib.ListN.{length, get_or}
 use lib.Signed.{lt_z}
+use Rattle.std.proofs.Common.{Option, None, Some}
+use Rattle.std.specs.Option.{MatchOption, unwrap_or}
 use Rattle.boxes.specs.Half.{wide_of}
 
-pub record Narrow (lows highs : List ℤ) (i : ℕ) : Type 0 where
-  pub long : length lows ≡ 12
-  pub wide : length highs ≡ 12
-  pub most : i ≤ 12
-  pub done : wide_of lows highs ≡ i + wide_of (drop i lows) (drop i highs)
+-- variable i has more than one value, or one
+abbrev pub wide_at : List ℤ → List ℤ → ℕ → Bool
+wide_at lows highs i = lt_z (get_or lows i (pos 0)) (get_or highs i (pos 0))
 
-module _ (lows highs : List ℤ) where
-  pub narrow_begin : length lows ≡ 12 → length highs ≡ 12 → Narrow lows highs 0
-  narrow_begin e d = record { long = e; wide = d; most = omega arith; done = omega arith }
+none_wide : (lows highs : List ℤ) → length highs ≡ length lows → ((i : ℕ) → i < length lows → wide_at lows highs i ≡ false)
+    → wide_of lows highs ≡ length lows
+unfolding wide_of
+none_wide [] highs e f = refl
+none_wide (low ∷ lows) [] e f = absurd (omega arith)
+none_wide (low ∷ lows) (high ∷ highs) e f = rw (f 0 (omega arith)) (ap suc (none_wide lows highs (omega arith) (λ i l. f (suc i) (omega arith))))
 
-  module _ (i : ℕ) (n : Narrow lows highs i) where
-    module _ (l : i < 12) where
-      pub narrow_here : lt_z (get_or lows i (pos 0)) (get_or highs i (pos 0)) ≡ true → i ≡ wide_of lows highs
-      unfolding wide_of
-      narrow_here t =
-          let e = n.long in
-          let d = n.wide in
-          sym (n.done ∙ rw (drop-cons lows i (pos 0) (omega arith), drop-cons highs i (pos 0) (omega arith), t) (omega arith))
+first_at : (k : ℕ) (lows highs : List ℤ) → length highs ≡ length lows → k < length lows → wide_at lows highs k ≡ true
+    → ((i : ℕ) → i < k → wide_at lows highs i ≡ false) → wide_of lows highs ≡ k
+unfolding wide_of
+first_at k [] highs e l t f = absurd (omega arith)
+first_at k (low ∷ lows) [] e l t f = absurd (omega arith)
+first_at zero (low ∷ lows) (high ∷ highs) e l t f = rw t
+first_at (suc k) (low ∷ lows) (high ∷ highs) e l t f =
+    rw (f 0 (omega arith)) (ap suc (first_at k lows highs (omega arith) (omega arith) t (λ i m. f (suc i) (omega arith))))
 
-      pub narrow_more : lt_z (get_or lows i (pos 0)) (get_or highs i (pos 0)) ≡ false → Narrow lows highs (i + 1)
-      unfolding wide_of
-      narrow_more t =
-          let e = n.long in
-          let d = n.wide in
-          let next : i + 1 ≡ suc i = omega arith in
-          record {
-            long = e;
-            wide = d;
-            most = omega arith;
-            done = n.done ∙ rw (drop-cons lows i (pos 0) (omega arith), drop-cons highs i (pos 0) (omega arith), t, next) (omega arith);
-          }
-
-    pub narrow_end : 12 ≤ i → 12 ≡ wide_of lows highs
-    unfolding wide_of
-    narrow_end l =
-        let e = n.long in
-        let m = n.most in
-        sym (n.done ∙ rw (drop_of_length-le lows {i = i} (omega arith)) (omega arith))
+pub first_is : (lows highs : List ℤ) (r : Option ℕ) → length lows ≡ 12 → length highs ≡ 12
+    → MatchOption r ((i : ℕ) → i < 12 → wide_at lows highs i ≡ false)
+    (λ k. (k < 12) × (wide_at lows highs k ≡ true) × ((i : ℕ) → i < k → wide_at lows highs i ≡ false))
+    → wide_of lows highs ≡ unwrap_or r 12
+first_is lows highs None e d m = rw (none_wide lows highs (cc) (λ i l. m i (omega arith))) e
+first_is lows highs (Some k) e d m = first_at k lows highs (cc) (omega arith) m.1 m.2

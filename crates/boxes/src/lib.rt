@@ -16,34 +16,22 @@ pub struct Box {
 pub fn first_wide(b: Box) -> usize
     ensures { result ≡ wide_of b.low b.high }
 {
-    let low = b.low;
-    let high = b.high;
-    let mut i: usize = 0;
-    while i < 12 {
-        let l = low[i];
-        let h = high[i];
-        if l < h {
-            return i;
-        }
-        i += 1;
-    }
-    12
+    b.low
+        .iter()
+        .zip(&b.high)
+        .position(|(l, h)| *l < *h)
+        .unwrap_or(12)
 }
 
 // The variable to halve the box at: the one blamed, where it has more than one value, or another that has.
 pub fn choice(b: Box, blamed: usize, other: usize) -> usize
     ensures { result ≡ choice_of b blamed other }
 {
-    let low = b.low;
-    let high = b.high;
-    if blamed < 12 {
-        let l = low[blamed];
-        let h = high[blamed];
-        if l < h {
-            return blamed;
-        }
+    if blamed < 12 && b.low[blamed] < b.high[blamed] {
+        blamed
+    } else {
+        other
     }
-    other
 }
 
 // The box with variable v up to the middle of its values.
@@ -52,12 +40,10 @@ pub fn lower(b: Box, v: usize) -> Box
     requires wide { get_or b.low v (pos 0) <ℤ get_or b.high v (pos 0) }
     ensures { result ≡ lower_of b v }
 {
-    let low = b.low;
-    let mut high = b.high;
-    let l = low[v];
-    let h = high[v];
-    high[v] = value_at(l, h, offset_of(l, h) / 2);
-    Box { low, high }
+    let (low, high) = (b.low[v], b.high[v]);
+    let mut half = b;
+    half.high[v] = value_at(low, high, offset_of(low, high) / 2);
+    half
 }
 
 // And from behind the middle on.
@@ -66,10 +52,8 @@ pub fn upper(b: Box, v: usize) -> Box
     requires wide { get_or b.low v (pos 0) <ℤ get_or b.high v (pos 0) }
     ensures { result ≡ upper_of b v }
 {
-    let mut low = b.low;
-    let high = b.high;
-    let l = low[v];
-    let h = high[v];
-    low[v] = value_at(l, h, offset_of(l, h) / 2 + 1);
-    Box { low, high }
+    let (low, high) = (b.low[v], b.high[v]);
+    let mut half = b;
+    half.low[v] = value_at(low, high, offset_of(low, high) / 2 + 1);
+    half
 }

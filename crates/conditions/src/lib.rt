@@ -28,24 +28,16 @@ pub struct Blocks {
     pub size: usize,
 }
 
+#[tactic(auto, unfolding(crate::specs::Layout::layout_of, crate::specs::Condition::covered_of))]
 fn layout(diagram: Diagram) -> Blocks
     requires { diagram.transitions ≤ 32 }
     ensures { result ≡ layout_of diagram }
 {
-    let claim = diagram.claim;
-    let property = property_of(claim);
-    let mut covers: usize = 1;
-    if property.covered {
-        covers = diagram.nodes;
-    }
-    let mut size = 2 * diagram.transitions;
-    if property.doubles {
-        size += 1;
-    }
+    let property = property_of(diagram.claim);
     Blocks {
-        covers,
+        covers: if property.covered { diagram.nodes } else { 1 },
         from: property.from,
-        size,
+        size: 2 * diagram.transitions + usize::from(property.doubles),
     }
 }
 
@@ -64,24 +56,21 @@ pub fn double_of(file: &[u8], diagram: Diagram, node: usize) -> usize
     requires { Loaded file.now diagram }
     ensures { result ≡ double_of file.now diagram node }
 {
-    let mut e: usize = 0;
-    while e < diagram.edges {
+    for e in 0..diagram.edges {
         let edge = edge_of(file, diagram, e);
         if double_from(edge, node) {
             return edge.transition;
         }
-        e += 1;
     }
     diagram.transitions
 }
 
 // The first condition.
+#[tactic(auto, unfolding(crate::specs::Condition::opening_of))]
 fn opening(diagram: Diagram) -> Condition
     ensures { result ≡ opening_of diagram }
 {
-    let claim = diagram.claim;
-    let property = property_of(claim);
-    if property.entry {
+    if property_of(diagram.claim).entry {
         Condition::Entry
     } else {
         Condition::Start
@@ -89,6 +78,7 @@ fn opening(diagram: Diagram) -> Condition
 }
 
 // Of a node's range and step conditions by transition, the one numbered k.
+#[tactic(auto, unfolding(crate::specs::Layout::pair_of))]
 fn pair(node: usize, k: usize) -> Condition
     ensures { result ≡ pair_of node k }
 {
@@ -127,6 +117,7 @@ pub fn condition_at(file: &[u8], diagram: Diagram, number: usize) -> Condition
 }
 
 // How a broken condition is named: the number of its refusal, its node and its transition, 255 where it has none.
+#[tactic(auto, unfolding(crate::specs::Condition::name_of))]
 pub fn refusal_number(condition: Condition) -> u8
     ensures { result ≡ refusal_number condition }
 {
@@ -140,30 +131,27 @@ pub fn refusal_number(condition: Condition) -> u8
     }
 }
 
+#[tactic(auto, unfolding(crate::specs::Condition::name_of))]
 pub fn node_number(condition: Condition) -> u8
     requires { node_number condition ≤ 255 }
     ensures { result ≡ node_number condition }
 {
     match condition {
-        Condition::Start => 255,
-        Condition::Entry => 255,
-        Condition::Cover(n) => n as u8,
-        Condition::Range(n, _) => n as u8,
-        Condition::Step(n, _) => n as u8,
-        Condition::Enabling(n, _) => n as u8,
+        Condition::Start | Condition::Entry => 255,
+        Condition::Cover(n)
+        | Condition::Range(n, _)
+        | Condition::Step(n, _)
+        | Condition::Enabling(n, _) => n as u8,
     }
 }
 
+#[tactic(auto, unfolding(crate::specs::Condition::name_of))]
 pub fn transition_number(condition: Condition) -> u8
     requires { transition_number condition ≤ 255 }
     ensures { result ≡ transition_number condition }
 {
     match condition {
-        Condition::Start => 255,
-        Condition::Entry => 255,
-        Condition::Cover(_) => 255,
-        Condition::Range(_, t) => t as u8,
-        Condition::Step(_, t) => t as u8,
-        Condition::Enabling(_, t) => t as u8,
+        Condition::Start | Condition::Entry | Condition::Cover(_) => 255,
+        Condition::Range(_, t) | Condition::Step(_, t) | Condition::Enabling(_, t) => t as u8,
     }
 }

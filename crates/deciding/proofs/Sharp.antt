@@ -11,8 +11,8 @@ use Prim.Native.Nat.{ℕ}
 use native.Mathlib.Omega.{arith}
 use lib.Dec.{lit≤}
 use lib.ListN.{set}
+use Rattle.std.specs.declared.result.Result.TheVariants.{Ok}
 use Rattle.diagrams.specs.declared.Diagram.{Diagram}
-use Rattle.shapes.specs.declared.Reading.{Reading}
 use Rattle.diagrams.specs.Diagram.{found_of, diagram_of, Loaded}
 use Rattle.diagrams.proofs.Laws.Diagram.{diagram_loaded}
 use Rattle.diagrams.proofs.Files.{A, B, constant, plain, true, o_b}
@@ -28,7 +28,7 @@ use Rattle.deciding.proofs.Laws.Decision.{judges, accepted, named_once}
 abbrev diagram : List ℕ → Diagram
 diagram file = diagram_of file o_b
 
-loaded : (file : List ℕ) → found_of file ≡ Reading.Found o_b → Loaded file (diagram file)
+loaded : (file : List ℕ) → found_of file ≡ Ok o_b → Loaded file (diagram file)
 loaded file e = diagram_loaded file o_b e
 
 -- ---- refused

@@ -5,6 +5,7 @@ use mathlib.Core.Path.{◌≡◌, refl}
 use mathlib.Core.List.{List, [], ◌∷◌, ◌++◌, map, flatten, Memᴰ}
 use Prim.Native.Nat.{ℕ}
 use lib.ListN.{set}
+use Rattle.shapes.specs.Refusal.{refused_number, refused_place}
 use Rattle.diagrams.specs.Diagram.{diagram_of}
 use Rattle.diagrams.specs.Start.{and_start}
 use Rattle.diagrams.proofs.Files.{agree, constant, B, D, H, Outline, o_b, o_d, o_h}
@@ -16,7 +17,7 @@ Row = (List (List ℕ) × Outline) × ℕ × (ℕ × ℕ)
 
 abbrev answered : Row → ℕ × ℕ
 answered ((file, o), n, expected) =
-    let bytes = flatten (set file 4 (constant n)) in and_start (λ number place. (number, place)) bytes (diagram_of bytes o) (0, 1)
+    let bytes = flatten (set file 4 (constant n)) in and_start (λ r. (refused_number r, refused_place r)) bytes (diagram_of bytes o) (0, 1)
 
 -- each of the three states is enough; 3 and -1 are none
 abbrev rows : List (List ℕ) × Outline → List Row

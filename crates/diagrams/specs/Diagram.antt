@@ -1,11 +1,11 @@
 -- The diagram of a file, with its system: the states, and where the transitions and the parts of the diagram stand.
-use Rattle.std.specs.Prelude.{◌≡◌, List, ℕ, ◌+◌, get_or, ℤ}
+use Rattle.std.specs.Prelude.{◌≡◌, List, ℕ, ◌+◌, get_or, ℤ, Result, Ok}
 use Rattle.shapes.specs.declared.Edge.{Edge}
 use Rattle.shapes.specs.declared.Outline.{Outline}
 use Rattle.records.specs.Place.{places_of}
 use Rattle.truths.specs.Table.{table_of}
 use Rattle.sections.specs.Section.{claim_at, property_at, edge_at, transition_of, node_of}
-use Rattle.shapes.specs.declared.Reading.{Reading}
+use Rattle.shapes.specs.declared.Refusal.{Refusal}
 use Rattle.reading.specs.Read.{read_of}
 use Rattle.states.specs.State.{Within}
 use Rattle.ranges.specs.Range.{lows_of, highs_of}
@@ -13,7 +13,7 @@ use Rattle.states.specs.Number.{count_of, state_of, number_of}
 use Rattle.diagrams.specs.declared.Diagram.{Diagram}
 
 -- for C11.6: what reading finds: the parts of a file, or the first refusal of 2 to 10 and 19
-unfoldable pub found_of : List ℕ → Reading
+unfoldable pub found_of : List ℕ → Result Outline Refusal
 found_of file = read_of file
 
 -- for C1.13: the assertions of the first n nodes stand behind the nodes' records
@@ -42,7 +42,7 @@ diagram_of file o =
 -- for C11.6: reading found the parts of the file, and g is its diagram
 pub record Loaded (file : List ℕ) (g : Diagram) : Type 0 where
   pub outline : Outline
-  pub found : found_of file ≡ Reading.Found outline
+  pub found : found_of file ≡ Ok outline
   pub is : g ≡ diagram_of file outline
 
 -- ---- states

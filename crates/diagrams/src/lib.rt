@@ -1,16 +1,15 @@
 // The diagram of a file, with its system, as judging speaks of them. What doesn't depend on a state is looked up once.
 #![tactic(auto)]
 
-ghost use Rattle.std.specs.Prelude.{◌≡◌, ℕ, ◌≤◌, ◌<◌, get_or};
-ghost use Rattle.shapes.specs.declared.Reading.{Reading};
+ghost use Rattle.std.specs.Prelude.{◌≡◌, ℕ, ◌≤◌, ◌<◌, get_or, Ok};
 ghost use Rattle.diagrams.specs.Diagram.{found_of, assertions_of, diagram_of, Loaded, edge_of};
 ghost use Rattle.diagrams.specs.Truth.{claimed_at, q_number, q_at};
 
 use ranges::{highs, lows};
 use reading::read;
-use records::walk::{Walked, truths};
+use records::walk::truths;
 use sections::{claim_at, edge_at, node_places, transition_places};
-use shapes::{Claim, Edge, Outline, Reading, property_of};
+use shapes::{Claim, Edge, Outline, Refusal, property_of};
 use states::count;
 
 // What is looked up once: the variables' ranges and how many states there are; the records of the start's expression, of the transitions, of the property's
@@ -33,7 +32,8 @@ pub struct Diagram {
 }
 
 // Reads a file.
-pub fn find(file: &[u8]) -> Reading
+#[tactic(auto, unfolding(crate::specs::Diagram::found_of))]
+pub fn find(file: &[u8]) -> Result<Outline, Refusal>
     ensures { result ≡ found_of file.now }
 {
     read(file)
@@ -46,17 +46,15 @@ fn assertions(nodes: [usize; 32], n: usize) -> [usize; 32]
     ensures { result ≡ assertions_of nodes n }
 {
     let mut places = [0usize; 32];
-    let mut i: usize = 0;
-    while i < n {
+    for i in 0..n {
         places[i] = nodes[i] + 1;
-        i += 1;
     }
     places
 }
 
 // The diagram of a file that was found to have one.
 pub fn diagram_of(file: &[u8], outline: Outline) -> Diagram
-    requires { found_of file.now ≡ Reading.Found outline }
+    requires { found_of file.now ≡ Ok outline }
     ensures { result ≡ diagram_of file.now outline }
 {
     let vars = outline.vars;
@@ -89,29 +87,18 @@ pub fn claimed_at(file: &[u8], diagram: Diagram, i: usize) -> usize
     requires { Loaded file.now diagram }
     ensures { result ≡ claimed_at file.now diagram i }
 {
-    let found = truths(file, diagram.vars, i, diagram.claimed);
-    match found {
-        Walked::End(end) => end,
-        Walked::Refused(_, _) => 0,
-    }
+    truths(file, diagram.vars, i, diagram.claimed).unwrap_or(0)
 }
 
 // Which of the property's expressions is the q of node i.
+#[tactic(auto, unfolding(crate::specs::Truth::q_number))]
 fn q_number(claim: Claim, i: usize) -> usize
     requires { i ≤ 32 }
     ensures { result ≡ q_number claim i }
 {
     let property = property_of(claim);
-    if property.entry {
-        if property.phased {
-            return 1 + i;
-        }
-        return 1;
-    }
-    if property.phased {
-        return i;
-    }
-    0
+    let before = usize::from(property.entry);
+    if property.phased { before + i } else { before }
 }
 
 // Where the q of node i stands.

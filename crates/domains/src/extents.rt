@@ -13,17 +13,16 @@ pub struct Extent {
     pub widest: usize,
 }
 
-// The number, or the end of the range from l to h that it lies beyond.
+// The number, or the end of the range from l to h that it lies beyond. Not clamp, which would require l at most h.
+#[tactic(auto, unfolding(crate::specs::Extent::cut_of))]
 pub fn cut(l: i64, h: i64, x: i64) -> i64
     ensures { result ≡ cut_of l h x }
 {
-    if x < l {
-        return l;
-    }
-    if h < x { h } else { x }
+    if x < l { l } else { x.min(h) }
 }
 
 // From low to high, as far as that lies in -1,000,000..1,000,000.
+#[tactic(auto, unfolding(crate::specs::Extent::extent_of))]
 pub fn spanning(low: i64, high: i64, widest: usize) -> Extent
     ensures { result ≡ extent_of low high widest }
 {
@@ -39,20 +38,17 @@ fn width(i: Interval) -> i64
     requires { Bounded i }
     ensures { result ≡ i.high -ℤ i.low }
 {
-    let a = i.low;
-    let b = i.high;
-    b - a
+    i.high - i.low
 }
 
 // The variable to blame for the wider of two.
+#[tactic(auto, unfolding(crate::specs::Extent::wider_of))]
 fn wider(x: Extent, y: Extent) -> usize
     requires left { Bounded x.span }
     requires right { Bounded y.span }
     ensures { result ≡ wider_of x y }
 {
-    let i = x.span;
-    let j = y.span;
-    if width(j) <= width(i) {
+    if width(y.span) <= width(x.span) {
         x.widest
     } else {
         y.widest
@@ -60,50 +56,45 @@ fn wider(x: Extent, y: Extent) -> usize
 }
 
 // Sum, difference or product, by the kind.
+#[tactic(auto, unfolding(crate::specs::Extent::combine_in))]
 pub fn combine(kind: u8, x: Extent, y: Extent) -> Extent
     requires left { Bounded x.span }
     requires right { Bounded y.span }
     ensures { result ≡ combine_in kind x y }
 {
-    let i = x.span;
-    let j = y.span;
-    let k = combined(kind, i, j);
-    let low = k.low;
-    let high = k.high;
-    spanning(low, high, wider(x, y))
+    let k = combined(kind, x.span, y.span);
+    spanning(k.low, k.high, wider(x, y))
 }
 
 // Whether a quotient, or a remainder, rises between low and high: a remainder does where both have one quotient.
+#[tactic(auto, unfolding(crate::specs::Extent::rises_of))]
 fn rises(kind: u8, low: i64, high: i64, d: i64) -> bool
     requires { pos 1 ≤ℤ d }
     ensures { result ≡ rises_of kind low high d }
 {
-    if kind == 0x18 {
-        return true;
-    }
-    intervals::divide(0x18, low, d) == intervals::divide(0x18, high, d)
+    kind == 0x18 || intervals::divide(0x18, low, d) == intervals::divide(0x18, high, d)
 }
 
 // Quotient or remainder by d, by the kind.
+#[tactic(auto, unfolding(crate::specs::Extent::divide_in))]
 pub fn divide(kind: u8, x: Extent, d: i64) -> Extent
     requires { pos 1 ≤ℤ d }
     ensures { result ≡ divide_in kind x d }
 {
-    let i = x.span;
-    let low = i.low;
-    let high = i.high;
-    let widest = x.widest;
+    let Interval { low, high } = x.span;
     if rises(kind, low, high, d) {
-        return spanning(
+        spanning(
             intervals::divide(kind, low, d),
             intervals::divide(kind, high, d),
-            widest,
-        );
+            x.widest,
+        )
+    } else {
+        spanning(0, d - 1, x.widest)
     }
-    spanning(0, d - 1, widest)
 }
 
 // 1 if true, else 0.
+#[tactic(auto, unfolding(crate::specs::Extent::indicator_in))]
 pub fn indicator(p: Seen) -> Extent
     ensures { result ≡ indicator_in p }
 {
@@ -115,27 +106,23 @@ pub fn indicator(p: Seen) -> Extent
 }
 
 // Whether x is at most y.
+#[tactic(auto, unfolding(crate::specs::Extent::at_most_in))]
 pub fn at_most(x: Extent, y: Extent) -> Seen
     requires left { Bounded x.span }
     requires right { Bounded y.span }
     ensures { result ≡ at_most_in x y }
 {
-    let i = x.span;
-    let j = y.span;
-    let a = i.low;
-    let b = i.high;
-    let c = j.low;
-    let d = j.high;
-    if b <= c {
-        return Seen::Yes;
+    if x.span.high <= y.span.low {
+        Seen::Yes
+    } else if y.span.high < x.span.low {
+        Seen::No
+    } else {
+        Seen::Unsure(wider(x, y))
     }
-    if d < a {
-        return Seen::No;
-    }
-    Seen::Unsure(wider(x, y))
 }
 
 // Equal, less or at most, by the kind.
+#[tactic(auto, unfolding(crate::specs::Extent::compare_in))]
 pub fn compare(kind: u8, x: Extent, y: Extent) -> Seen
     requires left { Bounded x.span }
     requires right { Bounded y.span }

@@ -34,9 +34,7 @@ pub fn number_in(part: &[u8], spans: &[u16; 4096], at: usize, b: Box, levels: us
         }
         0x11 => {
             let a = part[1] as usize;
-            let low = b.low;
-            let high = b.high;
-            spanning(element(low, a), element(high, a), a)
+            spanning(element(b.low, a), element(b.high, a), a)
         }
         0x12..=0x14 => {
             let x = number_in(rest, spans, first, b, below);
@@ -88,10 +86,11 @@ pub fn truth_in(part: &[u8], spans: &[u16; 4096], at: usize, b: Box, levels: usi
 }
 
 // What is seen of the truth expression at record `at`.
+#[tactic(auto, unfolding(crate::specs::Enclosure::seen_of))]
 pub fn seen_in(file: &[u8], spans: &[u16; 4096], at: usize, b: Box) -> Seen
     requires fits { Fits 16 truth_sort (part_at file.now at) b.low }
     requires spans { Spans file.now spans.now }
     ensures { result ≡ seen_of file.now at b }
 {
-    truth_in(&file[8 * at..], spans, at, b, 16)
+    truth_in(after(file, at), spans, at, b, 16)
 }

@@ -19,6 +19,7 @@ use Rattle.intervals.specs.Interval
 use Rattle.reading.proofs.Files
 use Rattle.reading.proofs.Files.{agree, range, transition, assignment, pick, constant, variable, plain}
 use Rattle.evaluating.specs.declared.Stepped.{Stepped}
+use Rattle.evaluating.specs.declared.Stepped.TheVariants.{Blocked, OutOfRange, To}
 use Rattle.expressions.specs.Expression
 use Rattle.expressions.specs.Spans
 use Rattle.ranges.specs.Range
@@ -29,7 +30,7 @@ use Rattle.states.specs.Number.{count_of, state_of, number_of}
 use Rattle.states.specs.Advance.{advance_of}
 use Rattle.evaluating.specs.Transition
 use Rattle.evaluating.specs.Step
-use Rattle.evaluating.specs.Step.{successors_of, step_of}
+use Rattle.evaluating.specs.Step.{successors_of, ends, step_of}
 
 -- ---- tables
 -- f gives the answer at each row of a table of questions and answers
@@ -371,33 +372,32 @@ unfolding flatten Bytes.signed16 Radix.at Radix.offset_of Table.tabulate Table.t
 states_hold = answers state_row states refl
 
 -- ---- transitions
--- a file, how many variables it has, the transition's record and a state; whether the guard is true, whether the step is enabled, the ends between which
--- its successors lie, and the successors
+-- a file, how many variables it has, the transition's record and a state; what the step is, and the successors
 abbrev Question : Type 0
 Question = List ℕ × ℕ × ℕ × List ℤ
 
-abbrev row : Question → Bool → Bool → List ℤ → List ℤ → List (List ℤ) → Question × (Stepped × List (List ℤ))
-row q guard enabled low high successors = (q, (record { guard = guard; enabled = enabled; low = low; high = high }, successors))
+abbrev row : Question → Stepped → List (List ℤ) → Question × (Stepped × List (List ℤ))
+row q step successors = (q, (step, successors))
 
 -- one successor; none
 abbrev leads : Question → List ℤ → Question × (Stepped × List (List ℤ))
-leads q next = row q true true next next (next ∷ [])
+leads q next = row q (To (ends next next)) (next ∷ [])
 
-abbrev stays : Question → Bool → Question × (Stepped × List (List ℤ))
-stays (file, vars, at, state) guard = row (file, vars, at, state) guard false state state []
+abbrev stays : Question → Stepped → Question × (Stepped × List (List ℤ))
+stays q step = row q step []
 
 abbrev steps : List (Question × (Stepped × List (List ℤ)))
 steps =
     -- C5.2: A's step: v := v + 1 where v < 2
     leads (A, 1, 5, one (pos 0)) (one (pos 1)) ∷
     leads (A, 1, 5, one (pos 1)) (one (pos 2)) ∷
-    stays (A, 1, 5, one (pos 2)) false ∷
+    stays (A, 1, 5, one (pos 2)) Blocked ∷
     -- C5.2: C's, with guard true: at 2 the value is out of range, so the step is not enabled, and nothing is clamped
     leads (C, 1, 5, one (pos 1)) (one (pos 2)) ∷
-    stays (C, 1, 5, one (pos 2)) true ∷
+    stays (C, 1, 5, one (pos 2)) OutOfRange ∷
     -- v := v - 1 leaves the range at its low end
     leads (down, 1, 5, one (pos 1)) (one (pos 0)) ∷
-    stays (down, 1, 5, one (pos 0)) true ∷
+    stays (down, 1, 5, one (pos 0)) OutOfRange ∷
     -- no update
     leads (stepping (transition 0 ++ yes), 1, 5, one (pos 1)) (one (pos 1)) ∷
     -- C5.1, C5.3: J's swaps, worked out together
@@ -405,26 +405,26 @@ steps =
     leads (J, 2, 10, two (pos 1) (pos 0)) (two (pos 0) (pos 1)) ∷
     leads (J, 2, 10, two (pos 1) (pos 1)) (two (pos 1) (pos 1)) ∷
     -- b := 0, a := a + 1: where a is 1, the first value is in range and the second not, so neither is assigned
-    stays (both, 2, 2, two (pos 1) (pos 1)) true ∷
+    stays (both, 2, 2, two (pos 1) (pos 1)) OutOfRange ∷
     leads (both, 2, 2, two (pos 0) (pos 1)) (two (pos 1) (pos 0)) ∷
     -- C5.3, C5.6: a pick of v's whole range, of a part of it, of one value, and under a false guard
-    row (stepping (transition 0 ++ yes ++ pick 0 0 2), 1, 5, one (pos 1)) true true (one (pos 0)) (one (pos 2)) (one (pos 0) ∷ one (pos 1) ∷ one (pos 2) ∷ []) ∷
-    row (stepping (transition 0 ++ yes ++ pick 0 1 2), 1, 5, one (pos 0)) true true (one (pos 1)) (one (pos 2)) (one (pos 1) ∷ one (pos 2) ∷ []) ∷
+    row (stepping (transition 0 ++ yes ++ pick 0 0 2), 1, 5, one (pos 1)) (To (ends (one (pos 0)) (one (pos 2)))) (one (pos 0) ∷ one (pos 1) ∷ one (pos 2) ∷ []) ∷
+    row (stepping (transition 0 ++ yes ++ pick 0 1 2), 1, 5, one (pos 0)) (To (ends (one (pos 1)) (one (pos 2)))) (one (pos 1) ∷ one (pos 2) ∷ []) ∷
     leads (stepping (transition 0 ++ yes ++ pick 0 2 2), 1, 5, one (pos 0)) (one (pos 2)) ∷
-    stays (stepping (transition 0 ++ no ++ pick 0 0 2), 1, 5, one (pos 1)) false ∷
+    stays (stepping (transition 0 ++ no ++ pick 0 0 2), 1, 5, one (pos 1)) Blocked ∷
     -- below 0, the other variable as it was
-    row (negative (pick 1 0xffff 1), 2, 2, two (pos 2) (pos 0)) true true (two (pos 2) (minus 1)) (two (pos 2) (pos 1))
+    row (negative (pick 1 0xffff 1), 2, 2, two (pos 2) (pos 0)) (To (ends (two (pos 2) (minus 1)) (two (pos 2) (pos 1))))
     (two (pos 2) (minus 1) ∷ two (pos 2) (pos 0) ∷ two (pos 2) (pos 1) ∷ []) ∷
     -- two picks: by their numbers, whichever stands first
-    row (negative (pick 1 0xffff 0 ++ pick 0 1 2), 2, 2, two (pos 0) (pos 0)) true true (two (pos 1) (minus 1)) (two (pos 2) (pos 0))
+    row (negative (pick 1 0xffff 0 ++ pick 0 1 2), 2, 2, two (pos 0) (pos 0)) (To (ends (two (pos 1) (minus 1)) (two (pos 2) (pos 0))))
     (two (pos 1) (minus 1) ∷ two (pos 1) (pos 0) ∷ two (pos 2) (minus 1) ∷ two (pos 2) (pos 0) ∷ []) ∷
     -- an assignment behind a pick, and a pick behind an assignment: the value is that of the state at hand; out of range, there is no successor
-    row (negative (pick 0 1 2 ++ add), 2, 2, two (pos 0) (pos 0)) true true (two (pos 1) (pos 1)) (two (pos 2) (pos 1))
+    row (negative (pick 0 1 2 ++ add), 2, 2, two (pos 0) (pos 0)) (To (ends (two (pos 1) (pos 1)) (two (pos 2) (pos 1))))
     (two (pos 1) (pos 1) ∷ two (pos 2) (pos 1) ∷ []) ∷
-    row (negative (add ++ pick 0 1 2), 2, 2, two (pos 0) (pos 0)) true true (two (pos 1) (pos 1)) (two (pos 2) (pos 1))
+    row (negative (add ++ pick 0 1 2), 2, 2, two (pos 0) (pos 0)) (To (ends (two (pos 1) (pos 1)) (two (pos 2) (pos 1))))
     (two (pos 1) (pos 1) ∷ two (pos 2) (pos 1) ∷ []) ∷
-    stays (negative (pick 0 1 2 ++ add), 2, 2, two (pos 0) (pos 1)) true ∷
-    stays (negative (add ++ pick 0 1 2), 2, 2, two (pos 0) (pos 1)) true ∷
+    stays (negative (pick 0 1 2 ++ add), 2, 2, two (pos 0) (pos 1)) OutOfRange ∷
+    stays (negative (add ++ pick 0 1 2), 2, 2, two (pos 0) (pos 1)) OutOfRange ∷
     []
   where
     down : List ℕ

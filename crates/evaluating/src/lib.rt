@@ -1,14 +1,14 @@
 // What a transition does at a state. A transition stands at a record; its guard follows, then its updates.
 #![tactic(auto)]
 
-ghost use Rattle.std.specs.Prelude.{◌≡◌, true, ◌+◌, ◌*◌, ◌/◌, ◌<◌, ◌≤◌, length, set};
+ghost use Rattle.std.specs.Prelude.{◌≡◌, true, ◌&&◌, ◌+◌, ◌*◌, ◌/◌, ◌<◌, ◌≤◌, length, set};
 ghost use Rattle.records.specs.Kind.{number as number_sort};
 ghost use Rattle.expressions.specs.Expression.{part_at};
 ghost use Rattle.expressions.specs.Spans.{Spans};
 ghost use Rattle.expressions.specs.Fits.{Fits};
 ghost use Rattle.evaluating.specs.Transition.{assignment_at, pick_at, update_at, updates_from, in_range_of};
 ghost use Rattle.evaluating.specs.Fits.{UpdateFits, UpdatesFit, TransitionFits};
-ghost use Rattle.evaluating.specs.Step.{updated_by, step_of};
+ghost use Rattle.evaluating.specs.Step.{ends, updated_by, step_of};
 
 use expressions::{number_at, truth_at};
 use integers::state::{between, element};
@@ -24,32 +24,28 @@ pub struct Update {
     pub end: usize,
 }
 
-// Whether all values lie in range, and then the ends between which the variables' values lie, else the state as it was for both.
-#[derive(Clone, Copy)]
-pub struct Updated {
-    pub fits: bool,
+// The lowest and the highest values that the variables may have.
+#[derive(Clone, Copy, PartialEq, Eq, Debug)]
+pub struct Ends {
     pub low: [i16; 12],
     pub high: [i16; 12],
 }
 
-// A transition at a state: whether its guard is true, whether it is enabled, and then the ends between which its successors lie, else the state as it was
-// for both.
-#[derive(Clone, Copy)]
-pub struct Stepped {
-    pub guard: bool,
-    pub enabled: bool,
-    pub low: [i16; 12],
-    pub high: [i16; 12],
+// What a transition does at a state: its guard is false; or some value would lie out of range; or its successors lie between these ends.
+#[derive(Clone, Copy, PartialEq, Eq, Debug)]
+pub enum Stepped {
+    Blocked,
+    OutOfRange,
+    To(Ends),
 }
 
 // Whether x lies in the range of variable i.
+#[tactic(auto, unfolding(crate::specs::Transition::in_range_of))]
 fn in_range(low: [i16; 12], high: [i16; 12], i: usize, x: i64) -> bool
     requires { i < 12 }
     ensures { result ≡ in_range_of low high i x }
 {
-    let l = element(low, i);
-    let h = element(high, i);
-    between(x, l, h)
+    between(x, element(low, i), element(high, i))
 }
 
 // The state with variable i set to x, which lies in its range.
@@ -58,23 +54,19 @@ fn with(low: [i16; 12], high: [i16; 12], state: [i16; 12], i: usize, x: i64) -> 
     requires range { in_range_of low high i x ≡ true }
     ensures { result ≡ set state i x }
 {
-    let l = low[i];
-    let h = high[i];
-    integers::state::assign(state, i, x, l, h)
+    integers::state::assign(state, i, x, low[i], high[i])
 }
 
 // The pick at record `at`.
+#[tactic(auto, unfolding(crate::specs::Transition::pick_at))]
 fn pick_at(file: &[u8], at: usize) -> Update
     requires { 8 * at + 8 ≤ length file.now }
     ensures { result ≡ pick_at file.now at }
 {
-    let variable = byte_at(file, 8 * at + 1) as usize;
-    let low = wide_value_at(file, 8 * at + 2);
-    let high = wide_value_at(file, 8 * at + 4);
     Update {
-        variable,
-        low,
-        high,
+        variable: byte_at(file, 8 * at + 1) as usize,
+        low: wide_value_at(file, 8 * at + 2),
+        high: wide_value_at(file, 8 * at + 4),
         end: at + 1,
     }
 }
@@ -85,11 +77,10 @@ fn assignment_at(file: &[u8], spans: &[u16; 4096], at: usize, state: [i16; 12]) 
     requires spans { Spans file.now spans.now }
     ensures { result ≡ assignment_at file.now at state }
 {
-    let variable = byte_at(file, 8 * at + 1) as usize;
     let from = at + 1;
     let value = number_at(&file[8 * from..], spans, from, state, 16);
     Update {
-        variable,
+        variable: byte_at(file, 8 * at + 1) as usize,
         low: value,
         high: value,
         end: from + spans[from] as usize,
@@ -103,12 +94,36 @@ fn update_at(file: &[u8], spans: &[u16; 4096], at: usize, state: [i16; 12]) -> U
     ensures { result ≡ update_at file.now at state }
 {
     if kind_is(file, 0x08, at) {
-        return pick_at(file, at);
+        pick_at(file, at)
+    } else {
+        assignment_at(file, spans, at, state)
     }
-    assignment_at(file, spans, at, state)
 }
 
-// The updates from record `first` on, each worked out from the state before any is made.
+// Whether the values of the update lie in its variable's range.
+fn fits(low: [i16; 12], high: [i16; 12], u: Update) -> bool
+    requires { u.variable < 12 }
+    ensures { result ≡ (in_range_of low high u.variable u.low && in_range_of low high u.variable u.high) }
+{
+    in_range(low, high, u.variable, u.low) && in_range(low, high, u.variable, u.high)
+}
+
+// The ends with the values of the update, which lie in its variable's range.
+fn with_update(low: [i16; 12], high: [i16; 12], e: Ends, u: Update) -> Ends
+    requires variable { u.variable < 12 }
+    requires range { (in_range_of low high u.variable u.low && in_range_of low high u.variable u.high) ≡ true }
+    ensures { result ≡ ends (set e.low u.variable u.low) (set e.high u.variable u.high) }
+{
+    // Each in a local first: the borrow checker does not cover an array's field that is given what a call returns.
+    let lowest = with(low, high, e.low, u.variable, u.low);
+    let highest = with(low, high, e.high, u.variable, u.high);
+    Ends {
+        low: lowest,
+        high: highest,
+    }
+}
+
+// The updates from record `first` on, each worked out from the state before any is made. None where some value lies out of range.
 fn updates(
     file: &[u8],
     spans: &[u16; 4096],
@@ -116,53 +131,28 @@ fn updates(
     low: [i16; 12],
     high: [i16; 12],
     state: [i16; 12],
-) -> Updated
+) -> Option<Ends>
     requires spans { Spans file.now spans.now }
     requires fits { UpdatesFit file.now (length file.now / 8) first state }
     ensures { result ≡ updated_by low high (updates_from file.now (length file.now / 8) first state) state }
 {
-    let mut lowest = state;
-    let mut highest = state;
+    let mut e = Ends {
+        low: state,
+        high: state,
+    };
     let mut at = first;
-    let mut left = file.len() / 8;
-    while 0 < left {
+    for _ in 0..file.len() / 8 {
         if !is_update(file, at) {
-            return Updated {
-                fits: true,
-                low: lowest,
-                high: highest,
-            };
+            break;
         }
         let u = update_at(file, spans, at, state);
-        let i = u.variable;
-        let l = u.low;
-        let h = u.high;
-        if !in_range(low, high, i, l) {
-            return Updated {
-                fits: false,
-                low: state,
-                high: state,
-            };
+        if !fits(low, high, u) {
+            return None;
         }
-        if !in_range(low, high, i, h) {
-            return Updated {
-                fits: false,
-                low: state,
-                high: state,
-            };
-        }
-        let lower = with(low, high, lowest, i, l);
-        let upper = with(low, high, highest, i, h);
-        lowest = lower;
-        highest = upper;
+        e = with_update(low, high, e, u);
         at = u.end;
-        left -= 1;
     }
-    Updated {
-        fits: true,
-        low: lowest,
-        high: highest,
-    }
+    Some(e)
 }
 
 // The transition at record `at`.
@@ -180,20 +170,10 @@ pub fn step(
 {
     let from = at + 1;
     if !truth_at(&file[8 * from..], spans, from, state, 16) {
-        return Stepped {
-            guard: false,
-            enabled: false,
-            low: state,
-            high: state,
-        };
+        return Stepped::Blocked;
     }
-    let found = updates(file, spans, from + spans[from] as usize, low, high, state);
-    let lowest = found.low;
-    let highest = found.high;
-    Stepped {
-        guard: true,
-        enabled: found.fits,
-        low: lowest,
-        high: highest,
+    match updates(file, spans, from + spans[from] as usize, low, high, state) {
+        Some(e) => Stepped::To(e),
+        None => Stepped::OutOfRange,
     }
 }

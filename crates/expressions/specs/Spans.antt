@@ -1,6 +1,7 @@
 -- A table of 4096 entries: how many records each expression of a part has, by the record that it begins at.
 use Rattle.std.specs.Prelude.{◌≡◌, List, [], ◌∷◌, ◌++◌, ℕ, zero, suc, ◌+◌, ◌-◌, ◌/◌, ◌≤◌, length, get_or, replicate, ℤ}
-use Rattle.records.specs.Kind.{signature_at}
+use Rattle.records.specs.declared.kinds.Sort.{Sort}
+use Rattle.records.specs.Kind.{count, signature_at}
 use Rattle.records.specs.Walk.{span}
 use Rattle.expressions.specs.Expression.{part_at}
 use Rattle.expressions.specs.Fits.{Fits}
@@ -18,7 +19,7 @@ with_span operands rest = span_by operands rest ∷ rest
 -- the entries of the n records from `at` on
 unfoldable pub spans_from : List ℕ → ℕ → ℕ → List ℕ
 spans_from file zero at = []
-spans_from file (suc n) at = with_span (signature_at file at).operands (spans_from file n (at + 1))
+spans_from file (suc n) at = with_span (count (signature_at file at).operands) (spans_from file n (at + 1))
 
 -- of all the file's records; zeros beyond
 unfoldable pub spans_of : List ℕ → List ℕ
@@ -27,4 +28,5 @@ spans_of file = spans_from file (length file / 8) 0 ++ replicate (4096 - length 
 -- what the evaluators ask of a table: it is right wherever an expression begins
 pub record Spans (part table : List ℕ) : Type 0 where
   pub enough : length part ≤ 32768
-  pub right : (at levels want : ℕ) (state : List ℤ) → Fits levels want (part_at part at) state → get_or table at 0 ≡ span levels (part_at part at)
+  pub right : (at levels : ℕ) (want : Sort) (state : List ℤ) → Fits levels want (part_at part at) state
+      → get_or table at 0 ≡ span levels (part_at part at)

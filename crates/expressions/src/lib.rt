@@ -6,12 +6,11 @@ pub mod spans;
 ghost use Rattle.std.specs.Prelude.{◌≡◌, ◌+◌, ◌*◌, ◌≤◌, length, drop};
 ghost use Rattle.records.specs.Record.{value_b};
 ghost use Rattle.records.specs.Kind.{number as number_sort, truth as truth_sort};
-ghost use Rattle.expressions.specs.Expression.{part_at, indicator_of, compare_of, number, truth, holds_of};
+ghost use Rattle.expressions.specs.Expression.{part_at, compare_of, number, truth, holds_of};
 ghost use Rattle.expressions.specs.Spans.{Spans};
 ghost use Rattle.expressions.specs.Fits.{Fits};
 
 use integers::bytes::signed16;
-use integers::state::widen;
 use intervals::divide;
 
 // The part behind so many records.
@@ -23,6 +22,7 @@ pub fn after(part: &[u8], records: usize) -> &[u8]
 }
 
 // Equal, less or at most, by the kind.
+#[tactic(auto, unfolding(crate::specs::Expression::compare_of))]
 fn compare(kind: u8, x: i64, y: i64) -> bool
     ensures { result ≡ compare_of kind x y }
 {
@@ -33,19 +33,12 @@ fn compare(kind: u8, x: i64, y: i64) -> bool
     }
 }
 
-// 1 if true, else 0.
-fn indicator(p: bool) -> i64
-    ensures { result ≡ indicator_of p }
-{
-    if p { 1 } else { 0 }
-}
-
 // The constant that begins the part.
 pub fn constant(part: &[u8]) -> i64
     requires { 8 ≤ length part.now }
     ensures { result ≡ value_b part.now 0 }
 {
-    widen(signed16(part[2], part[3]))
+    i64::from(signed16(part[2], part[3]))
 }
 
 // The number expression that the part begins with, with `levels` nesting levels left. The part begins at record `at` of the file that `spans` has the
@@ -69,11 +62,7 @@ pub fn number_at(
     let first = at + 1;
     match kind {
         0x10 => constant(part),
-        0x11 => {
-            let a = part[1] as usize;
-            let value = state[a];
-            widen(value)
-        }
+        0x11 => i64::from(state[part[1] as usize]),
         0x12 => {
             let x = operand(rest, spans, first, state, below);
             let middle = 1 + spans[first] as usize;
@@ -89,7 +78,7 @@ pub fn number_at(
             let middle = 1 + spans[first] as usize;
             x * operand(after(part, middle), spans, at + middle, state, below)
         }
-        0x15 => indicator(truth_at(rest, spans, first, state, below)),
+        0x15 => i64::from(truth_at(rest, spans, first, state, below)),
         0x18..=0x19 => {
             let x = operand(rest, spans, first, state, below);
             let middle = 1 + spans[first] as usize;
@@ -107,14 +96,9 @@ fn operand(part: &[u8], spans: &[u16; 4096], at: usize, state: [i16; 12], levels
     requires spans { Spans part.now (drop at spans.now) }
     ensures { result ≡ number levels part.now state }
 {
-    let kind = part[0];
-    match kind {
+    match part[0] {
         0x10 => constant(part),
-        0x11 => {
-            let a = part[1] as usize;
-            let value = state[a];
-            widen(value)
-        }
+        0x11 => i64::from(state[part[1] as usize]),
         _ => number_at(part, spans, at, state, levels),
     }
 }

@@ -9,11 +9,7 @@ fn end_of(spans: &[u16], at: usize) -> usize
     requires { at ≤ 4096 }
     ensures { result ≡ at + get_or spans.now at 0 }
 {
-    if at < spans.len() {
-        at + spans[at] as usize
-    } else {
-        at
-    }
+    at + spans.get(at).map_or(0, |n| *n as usize)
 }
 
 // The table of a file's expressions, by the record that each begins at, and zeros beyond. From the last record back, an expression has one record
@@ -23,19 +19,13 @@ pub fn spans_of(file: &[u8]) -> [u16; 4096]
     ensures { result ≡ spans_of file.now }
 {
     let mut spans = [0u16; 4096];
-    let records = file.len() / 8;
-    let mut at = records;
-    while 0 < at {
-        at -= 1;
-        let operands = signature_at(file, at).operands;
-        let mut end = at + 1;
-        if 0 < operands {
-            end = end_of(&spans, end);
+    for at in (0..file.len() / 8).rev() {
+        let operands = signature_at(file, at).operands.count();
+        let mut behind = at + 1;
+        for _ in 0..operands {
+            behind = end_of(&spans, behind);
         }
-        if 1 < operands {
-            end = end_of(&spans, end);
-        }
-        spans[at] = (end - at) as u16;
+        spans[at] = (behind - at) as u16;
     }
     spans
 }

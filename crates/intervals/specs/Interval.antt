@@ -1,13 +1,16 @@
 -- The interval of a number expression, and refusal 8.
-use Rattle.std.specs.Prelude.{ℕ, zero, suc, ◌+◌, ◌/◌, cond, ◌&&◌, List, length, ltb, leb, eqb, ℤ, pos, nat_abs, ◌+ℤ◌, ◌-ℤ◌, ◌*ℤ◌}
+use Rattle.std.specs.Prelude.{ℕ, zero, suc, ◌+◌, ◌/◌, cond, ◌&&◌, List, length, ltb, leb, eqb, ℤ, pos, nat_abs, ◌+ℤ◌, ◌-ℤ◌, ◌*ℤ◌, Result, Ok, Err, is_none}
 use Rattle.integers.specs.declared.Interval.{Interval}
 use Rattle.integers.specs.Interval.{max_z, over_ends, in_bounds}
 use Rattle.integers.specs.Quotient.{quotient, remainder}
-use Rattle.records.specs.declared.walk.Walked.{Walked}
+use Rattle.shapes.specs.declared.Refusal.{Refusal}
+use Rattle.shapes.specs.Refusal.{and_then}
 use Rattle.records.specs.Record.{kind_at, field_a, value_b, value_c}
-use Rattle.records.specs.Kind.{none, signature_at}
+use Rattle.records.specs.declared.kinds.Operands.{Operands}
+use Rattle.records.specs.declared.kinds.Operands.TheVariants.{Zero, One, Two}
+use Rattle.records.specs.Kind.{signature_at}
 use Rattle.intervals.specs.declared.Analysis.{Analysis}
-use Rattle.intervals.specs.declared.Analysis.TheVariants.{Within, Out}
+use Rattle.records.specs.Walk.{Walked}
 
 -- for C3.1: from l to h
 abbrev pub interval : ℤ → ℤ → Interval
@@ -45,36 +48,38 @@ join_of kind i j =
     cond (leb 0x12 kind && leb kind 0x14) (over_ends (combine kind) i j)
     (cond (leb 0x18 kind && leb kind 0x19) (divided_by kind i (divisor_of j)) unit)
 
--- C3.4: a record's own interval, once its operands are judged
-unfoldable pub own_of : Interval → ℕ → ℕ → Analysis
-own_of i end at = cond (in_bounds i) (Within i end) (Out at)
+-- for C3.5: the interval of an expression and the record behind it, or the record whose own interval is out of bounds
+abbrev pub Analysed : Type 0
+Analysed = Result Analysis Refusal
 
--- for C3.5: what follows from an analysis: `out` where a record goes out of bounds, else `next`
-abbrev pub and_interval : {A : Type 0} → (ℕ → A) → Analysis → (Interval → ℕ → A) → A
-and_interval out (Analysis.Within i end) next = next i end
-and_interval out (Analysis.Out place) next = out place
+abbrev pub within : Interval → ℕ → Analysis
+within i end = record { interval = i; end = end }
 
--- C3.2, C3.5: a record at `at` with n operands, each judged by `operand`
-unfoldable pub by_operands : List ℕ → ℕ → (ℕ → Analysis) → ℕ → Analysis
-by_operands file at operand zero = own_of (leaf_of file at) (at + 1) at
-by_operands file at operand (suc zero) = and_interval Out (operand (at + 1)) λ i end. own_of unit end at
-by_operands file at operand (suc (suc n)) =
-    and_interval Out (operand (at + 1)) λ i next. and_interval Out (operand next) λ j end. own_of (join_of (kind_at file at) i j) end at
+-- C3.4, C10.8: a record's own interval, once its operands are judged
+unfoldable pub own_of : Interval → ℕ → ℕ → Analysed
+own_of i end at = cond (in_bounds i) (Ok (within i end)) (Err (Refusal.Interval at))
+
+-- C3.2, C3.5: a record at `at` by its operands, each judged by `operand`
+unfoldable pub by_operands : List ℕ → ℕ → (ℕ → Analysed) → Operands → Analysed
+by_operands file at operand Zero = own_of (leaf_of file at) (at + 1) at
+by_operands file at operand (One a) = and_then (operand (at + 1)) λ i. own_of unit i.end at
+by_operands file at operand (Two a b) =
+    and_then (operand (at + 1)) λ i. and_then (operand i.end) λ j. own_of (join_of (kind_at file at) i.interval j.interval) j.end at
 
 -- for C3.5: the expression at record `at`, which nests within `levels`. With no level or record left it is out; a file that parses has both
-unfoldable pub analysis_of : List ℕ → ℕ → ℕ → Analysis
-analysis_of file zero at = Out at
+unfoldable pub analysis_of : List ℕ → ℕ → ℕ → Analysed
+analysis_of file zero at = Err (Refusal.Interval at)
 analysis_of file (suc levels) at =
-    cond (ltb at (length file / 8)) (by_operands file at (analysis_of file levels) (signature_at file at).operands) (Out at)
+    cond (ltb at (length file / 8)) (by_operands file at (analysis_of file levels) (signature_at file at).operands) (Err (Refusal.Interval at))
 
 -- C3.5, C10.8: every expression in file order, from record `at` on, with at most `left` records left; a record that begins none is passed over
 unfoldable pub analysed_from : List ℕ → ℕ → ℕ → Walked
-analysed_from file zero at = Walked.End at
+analysed_from file zero at = Ok at
 analysed_from file (suc left) at =
     cond (ltb at (length file / 8))
-    (cond (eqb (signature_at file at).sort none) (analysed_from file left (at + 1))
-    (and_interval (Walked.Refused 8) (analysis_of file 16 at) λ i. analysed_from file left))
-    (Walked.End at)
+    (cond (is_none (signature_at file at).sort) (analysed_from file left (at + 1))
+    (and_then (analysis_of file 16 at) λ i. analysed_from file left i.end))
+    (Ok at)
 
 -- C10.8: of the whole file
 unfoldable pub intervals_of : List ℕ → Walked

@@ -3,21 +3,24 @@
 -- lists of conditions and one of single tests.
 -- Assumes nothing.
 use mathlib.Core.Path.{◌≡◌, refl}
+use mathlib.Core.Bool
 use mathlib.Core.List.{List, [], ◌∷◌, ◌++◌, map, flatten, Memᴰ}
 use Prim.Native.Nat.{ℕ}
 use lib.ListN.{length, take, drop, set, replicate}
-use Rattle.shapes.specs.declared.Reading.{Reading}
+use Rattle.std.specs.declared.result.Result.{Result}
+use Rattle.std.specs.declared.result.Result.TheVariants.{Ok, Err}
+use Rattle.shapes.specs.declared.Outline.{Outline}
+use Rattle.shapes.specs.declared.Refusal.{Refusal}
 use Rattle.diagrams.specs.Diagram.{found_of, diagram_of}
 use Rattle.diagrams.proofs.Files.{agree, bytes, range, start, transition, assignment, pick, property, node, single, double}
 use Rattle.diagrams.proofs.Files.{constant, variable, plain, true, is, A, B, C, D, E, F, G, H, I, J}
 use Rattle.conditions.specs.Condition.{conditions_of}
 use Rattle.verdicts.specs.Verdict
-use Rattle.verdicts.specs.Verdict.{check_of, single_of}
+use Rattle.verdicts.specs.Verdict.{check_of, Single, single_of}
 use Rattle.report.specs.Report
 use Rattle.report.specs.Report.{report_of}
 use Rattle.conditions.specs.declared.Condition.{Condition}
 use Rattle.conditions.specs.declared.Condition.TheVariants.{Start, Entry, Cover, Range, Step, Enabling}
-use Rattle.verdicts.specs.declared.Single.{Single}
 use Rattle.deciding.proofs.Computing.{deciding}
 
 -- ---- reports
@@ -203,9 +206,9 @@ abbrev table : List Row
 table = marked ++ broken ++ rings ++ starts ++ picks
 
 -- ---- lists of conditions (C8.3 to C8.6)
-abbrev listed : List ℕ → Reading → List Condition
-listed file (Reading.Found o) = conditions_of file (diagram_of file o)
-listed file (Reading.Refused number place) = []
+abbrev listed : List ℕ → Result Outline Refusal → List Condition
+listed file (Ok o) = conditions_of file (diagram_of file o)
+listed file (Err refusal) = []
 
 abbrev Listing : Type 0
 Listing = List (List ℕ) × List Condition
@@ -235,26 +238,26 @@ answered (file, condition, state) = single_of (flatten file) condition state
 
 abbrev singles : List (Question × Single)
 singles =
-    ((A, 3, 0), Single.Holds) ∷
-    ((A, 3, 1), Single.Fails) ∷
-    ((A, 3, 2), Single.Holds) ∷
-    ((E, 6, 0), Single.Fails) ∷
+    ((A, 3, 0), Ok Bool.true) ∷
+    ((A, 3, 1), Ok Bool.false) ∷
+    ((A, 3, 2), Ok Bool.true) ∷
+    ((E, 6, 0), Ok Bool.false) ∷
     -- C10.11, C10.12, C13.2: a condition number too large is 11, a state number 12, both 11; a file that is not readable comes first
-    ((A, 4, 0), Single.Refused 11 0) ∷
-    ((A, 3, 3), Single.Refused 12 0) ∷
-    ((A, 4, 3), Single.Refused 11 0) ∷
-    ((F, 99, 99), Single.Refused 9 30) ∷
+    ((A, 4, 0), Err Refusal.ConditionNumber) ∷
+    ((A, 3, 3), Err Refusal.StateNumber) ∷
+    ((A, 4, 3), Err Refusal.ConditionNumber) ∷
+    ((F, 99, 99), Err (Refusal.Edge 30)) ∷
     -- C10.20, C13.2: without a starting state it is 20, whatever the numbers; 10 comes before
-    ((starting beyond B, 0, 0), Single.Refused 20 0) ∷
-    ((starting beyond A, 4, 0), Single.Refused 20 0) ∷
-    ((starting beyond A, 3, 3), Single.Refused 20 0) ∷
-    ((starting beyond D, 99, 99), Single.Refused 20 0) ∷
-    ((starting beyond G, 99, 99), Single.Refused 10 2) ∷
-    ((starting (is 0 2) A, 0, 2), Single.Fails) ∷
+    ((starting beyond B, 0, 0), Err Refusal.NoStart) ∷
+    ((starting beyond A, 4, 0), Err Refusal.NoStart) ∷
+    ((starting beyond A, 3, 3), Err Refusal.NoStart) ∷
+    ((starting beyond D, 99, 99), Err Refusal.NoStart) ∷
+    ((starting beyond G, 99, 99), Err (Refusal.NoWayDown 2)) ∷
+    ((starting (is 0 2) A, 0, 2), Ok Bool.false) ∷
     -- C8.10, C8.11: a step with a pick: from 0 1 it may lead to 1 1; at 1 0 a value is out of range, so that it leads nowhere
-    ((beside, 3, 1), Single.Fails) ∷
-    ((beside, 3, 2), Single.Holds) ∷
-    ((beside, 2, 2), Single.Fails) ∷
+    ((beside, 3, 1), Ok Bool.false) ∷
+    ((beside, 3, 2), Ok Bool.true) ∷
+    ((beside, 2, 2), Ok Bool.false) ∷
     []
 
 -- ---- what antt computes

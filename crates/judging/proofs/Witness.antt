@@ -14,10 +14,10 @@ use native.Mathlib.Nat.{add-zero}
 use native.Mathlib.Omega.{arith}
 use lib.Dec.{T, lit<, lit≤}
 use lib.IntN.{ℤ}
+use Rattle.std.specs.declared.result.Result.TheVariants.{Ok}
 use Rattle.diagrams.specs.declared.Diagram.{Diagram}
 use Rattle.shapes.specs.declared.Claim.{Claim}
 use Rattle.shapes.specs.declared.Outline.{Outline}
-use Rattle.shapes.specs.declared.Reading.{Reading}
 use Rattle.diagrams.specs.Diagram.{found_of, diagram_of, State}
 use Rattle.diagrams.specs.Truth.{start_holds, p_holds, q_holds}
 use Rattle.verdicts.specs.Verdict.{check_of}
@@ -120,7 +120,7 @@ module _ (file : List ℕ) (g : Diagram) (c : Counter file g) where
 -- ---- the theorems
 -- the file is accepted, has this outline, and claims this
 abbrev Accepted : List ℕ → Outline → Claim → Type 0
-Accepted file o claim = ((check_of file 32).number ≡ 0) × (found_of file ≡ Reading.Found o) × ((diagram_of file o).claim ≡ claim)
+Accepted file o claim = ((check_of file 32).number ≡ 0) × (found_of file ≡ Ok o) × ((diagram_of file o).claim ≡ claim)
 
 pub invariance_met : Accepted b o_b Claim.Invariance × IsRun (system_of b g_b) listed × T (start_holds b g_b (at listed 0)) × Idles listed × Moves listed
 unfolding reporting

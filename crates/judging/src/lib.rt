@@ -8,7 +8,8 @@ ghost use Rattle.report.specs.Report.{report_of};
 ghost use Rattle.soundness.specs.System.{Claim};
 
 use report::{Verdict, write_report};
-use verdicts::{Single, answer, unnamed, verdict};
+use shapes::Refusal;
+use verdicts::{answer, refused, verdict};
 
 // Checks a file: 0 and the total of its conditions where all of them are true, so that what the file claims is true of every run; else the refusal
 // that meets it. The report has the same fields. Every call ends in such an answer (C12.8).
@@ -19,7 +20,7 @@ pub fn check(file: &[u8], report: &mut [u8]) -> Verdict
     ensures sound { result.number ≡ 0 → Claim file.now }
 {
     if report.len() < 32 {
-        return unnamed(1, 0, 0);
+        return refused(Refusal::Buffer);
     }
     let found = verdict(file, true);
     write_report(found, report);
@@ -27,7 +28,7 @@ pub fn check(file: &[u8], report: &mut [u8]) -> Verdict
 }
 
 // Tests one condition at one state, by their numbers. Every call ends in an answer (C12.8).
-pub fn single(file: &[u8], condition: usize, state: usize) -> Single
+pub fn single(file: &[u8], condition: usize, state: usize) -> Result<bool, Refusal>
     ensures { result ≡ single_of file.now condition state }
 {
     answer(file, condition, state)

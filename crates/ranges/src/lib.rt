@@ -12,11 +12,9 @@ fn ends(file: &[u8], vars: usize, field: usize) -> [i16; 12]
     requires field { field ≤ 8 }
     ensures { result ≡ ends_of file.now vars field }
 {
-    let mut ends = [0i16; 12];
-    let mut v: usize = 0;
-    while v < vars {
+    let mut ends = [0; 12];
+    for v in 0..vars {
         ends[v] = value_at(file, 8 * v + field);
-        v += 1;
     }
     ends
 }

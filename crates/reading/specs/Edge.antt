@@ -1,9 +1,9 @@
 -- The edge rules, and the refusals 9 and 10 that enforce them.
-use Rattle.std.specs.Prelude.{ℕ, ◌-◌, Bool, cond, not, ◌&&◌, ◌||◌, List, ltb, leb, eqb}
+use Rattle.std.specs.Prelude.{ℕ, ◌-◌, Bool, cond, not, ◌&&◌, ◌||◌, List, ltb, leb, eqb, Ok}
 use Rattle.std.specs.Bool.{beq}
-use Rattle.records.specs.declared.walk.Walked.{Walked}
+use Rattle.shapes.specs.declared.Refusal.{Refusal}
 use Rattle.shapes.specs.declared.Outline.{Outline}
-use Rattle.records.specs.Walk.{in_sequence, refuse_first}
+use Rattle.records.specs.Walk.{Walked, in_sequence, refuse_first}
 use Rattle.records.specs.Record.{field_a}
 use Rattle.shapes.specs.declared.Property.{Property}
 use Rattle.shapes.specs.declared.Edge.{Edge}
@@ -46,7 +46,7 @@ rule_of file o at =
 
 -- C10.9: each edge does
 unfoldable pub rules_of : List ℕ → Outline → Walked
-rules_of file o = refuse_first 9 (rule_of file o) o.edges o.edge
+rules_of file o = refuse_first Refusal.Edge (rule_of file o) o.edges o.edge
 
 -- C9.9: the node has a double edge
 unfoldable pub doubled_of : List ℕ → Outline → ℕ → Bool
@@ -56,4 +56,4 @@ doubled_of file o node = any (λ i. double_from node (edge_at file i)) o.edges o
 unfoldable pub doubles_of : List ℕ → Outline → Walked
 doubles_of file o =
     let p = property_at file o.property in
-    cond p.doubles (refuse_first 10 (doubled_of file o) (o.nodes - p.from) p.from) (Walked.End 0)
+    cond p.doubles (refuse_first Refusal.NoWayDown (doubled_of file o) (o.nodes - p.from) p.from) (Ok 0)

@@ -1,6 +1,7 @@
 -- How many combinations of picks the transitions have, and refusal 22.
-use Rattle.std.specs.Prelude.{ℕ, zero, suc, ◌+◌, ◌*◌, ◌/◌, cond, List, length, leb}
-use Rattle.records.specs.declared.walk.Walked.{Walked}
+use Rattle.std.specs.Prelude.{ℕ, zero, suc, ◌+◌, ◌*◌, ◌/◌, cond, List, length, leb, Ok, Err}
+use Rattle.shapes.specs.declared.Refusal.{Refusal}
+use Rattle.records.specs.Walk.{Walked}
 use Rattle.records.specs.Record.{kind_is}
 use Rattle.reading.specs.declared.product.Combined.{Combined}
 use Rattle.reading.specs.States.{size_at}
@@ -16,10 +17,10 @@ past_record file at p =
 
 -- C10.22: the `left` records from `at` on
 unfoldable pub picks_from : List ℕ → ℕ → ℕ → Combined → Walked
-picks_from file zero at p = Walked.End at
+picks_from file zero at p = Ok at
 picks_from file (suc left) at p =
     let q = past_record file at p in
-    cond (leb q.product 4096) (picks_from file left (at + 1) q) (Walked.Refused 22 q.place)
+    cond (leb q.product 4096) (picks_from file left (at + 1) q) (Err (Refusal.Picks q.place))
 
 -- C10.22: of the whole file
 unfoldable pub picks_of : List ℕ → Walked

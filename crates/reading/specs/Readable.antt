@@ -1,16 +1,16 @@
 -- What is promised of a readable file, for the layers above: its start, transitions, property, nodes, edges and double transitions; and what refusal 8 says.
-use Rattle.std.specs.Prelude.{◌≡◌, true, false, List, [], ◌∷◌, ℕ, ◌+◌, ◌<◌, ◌≤◌, ◌≤ℤ◌}
+use Rattle.std.specs.Prelude.{◌≡◌, true, false, List, [], ◌∷◌, ℕ, ◌+◌, ◌<◌, ◌≤◌, ◌≤ℤ◌, Ok}
 use Rattle.integers.specs.declared.Interval.{Interval}
 use Rattle.integers.specs.Interval.{in_bounds}
-use Rattle.records.specs.declared.walk.Walked.{Walked}
 use Rattle.shapes.specs.declared.Outline.{Outline}
 use Rattle.records.specs.Record.{kind_at, field_a, value_b, value_c, kind_is}
+use Rattle.records.specs.declared.kinds.Sort.{Sort}
+use Rattle.records.specs.declared.kinds.Operands.TheVariants.{Zero, Two}
 use Rattle.records.specs.Kind.{number, truth, signature_at}
 use Rattle.records.specs.Walk.{in_sequence, walk_of, truth_of}
 use Rattle.shapes.specs.declared.Edge.{Edge}
 use Rattle.sections.specs.Section.{property_at, edge_at, is_update, transition_of, node_of}
-use Rattle.intervals.specs.declared.Analysis.{Analysis}
-use Rattle.intervals.specs.Interval.{leaf_of, join_of, analysis_of}
+use Rattle.intervals.specs.Interval.{within, leaf_of, join_of, analysis_of}
 use Rattle.reading.specs.Edge.{just_of}
 use Rattle.intervals.specs.Expression.{Expression}
 
@@ -42,7 +42,7 @@ pub record Transition (file : List ℕ) (o : Outline) (t : ℕ) : Type 0 where
   pub place : ℕ
   pub behind : ℕ
   pub end : ℕ
-  pub reached : in_sequence (transition_of file o.vars) t o.transition ≡ Walked.End place
+  pub reached : in_sequence (transition_of file o.vars) t o.transition ≡ Ok place
   pub named : kind_is file 0x03 place ≡ true
   pub just_or_not : field_a file place ≤ 1
   pub interval : Interval
@@ -55,7 +55,7 @@ pub record Transition (file : List ℕ) (o : Outline) (t : ℕ) : Type 0 where
 pub record PropertyExpression (file : List ℕ) (o : Outline) (i : ℕ) : Type 0 where
   pub place : ℕ
   pub end : ℕ
-  pub reached : in_sequence (truth_of file o.vars) i (o.property + 1) ≡ Walked.End place
+  pub reached : in_sequence (truth_of file o.vars) i (o.property + 1) ≡ Ok place
   pub interval : Interval
   pub expression : Expression file o.vars 16 truth place end interval
 
@@ -64,11 +64,11 @@ pub record Node (file : List ℕ) (o : Outline) (n : ℕ) : Type 0 where
   pub place : ℕ
   pub mid : ℕ
   pub end : ℕ
-  pub reached : in_sequence (node_of file o.vars (property_at file o.property).ranks) n o.node ≡ Walked.End place
+  pub reached : in_sequence (node_of file o.vars (property_at file o.property).ranks) n o.node ≡ Ok place
   pub named : kind_is file 0x06 place ≡ true
   pub interval : Interval
   pub assertion : Expression file o.vars 16 truth (place + 1) mid interval
-  pub ranks : in_sequence (walk_of file o.vars 16 number) (property_at file o.property).ranks mid ≡ Walked.End end
+  pub ranks : in_sequence (walk_of file o.vars 16 number) (property_at file o.property).ranks mid ≡ Ok end
 
 -- ---- edges
 -- edge e, and it names a transition and two nodes of the file
@@ -98,9 +98,9 @@ pub record DoubleTransition (file : List ℕ) (o : Outline) (node : ℕ) : Type 
 -- the own interval of the record at `at`, whose operands' intervals are in bounds: that of a constant, of a variable, or of a sum,
 -- difference or product
 pub data Own (file : List ℕ) (at : ℕ) : Interval → Type 0 where
-  leaf : (signature_at file at).operands ≡ 0 → Own file at (leaf_of file at)
-  join : (levels : ℕ) {mid end : ℕ} {j k : Interval} → (signature_at file at).operands ≡ 2 → analysis_of file levels (at + 1) ≡ Analysis.Within j mid
-      → analysis_of file levels mid ≡ Analysis.Within k end → Own file at (join_of (kind_at file at) j k)
+  leaf : (signature_at file at).operands ≡ Zero → Own file at (leaf_of file at)
+  join : (levels : ℕ) {a b : Sort} {mid end : ℕ} {j k : Interval} → (signature_at file at).operands ≡ Two a b → analysis_of file levels (at + 1) ≡ Ok (within j mid)
+      → analysis_of file levels mid ≡ Ok (within k end) → Own file at (join_of (kind_at file at) j k)
 
 -- it goes out of bounds
 pub record Outside (file : List ℕ) (at : ℕ) : Type 0 where

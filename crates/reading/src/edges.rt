@@ -7,24 +7,20 @@ ghost use Rattle.reading.specs.Edge.{conflict_of, just_of, leads_of, falls_of, d
 ghost use Rattle.reading.specs.Fits.{OutlineFits, EdgeFits};
 
 use records::byte_at;
-use records::walk::Walked;
 use sections::{claim_at, edge_at, transition_places};
-use shapes::{Edge, Outline, Property, double_from, property_of};
+use shapes::{Edge, Outline, Property, Refusal, double_from, property_of};
 
 // Whether two edges conflict: from one node, either of one transition, single and double, or both double.
+#[tactic(auto, unfolding(crate::specs::Edge::conflict_of))]
 fn conflict(a: Edge, b: Edge) -> bool
     ensures { result ≡ conflict_of a b }
 {
-    if a.from != b.from {
-        return false;
-    }
-    if a.transition == b.transition {
-        return a.double != b.double;
-    }
-    if a.double {
-        return b.double;
-    }
-    false
+    a.from == b.from
+        && if a.transition == b.transition {
+            a.double != b.double
+        } else {
+            a.double && b.double
+        }
 }
 
 // Whether one of the n edges from record `first` on conflicts with the edge.
@@ -32,16 +28,7 @@ fn conflicts(file: &[u8], edge: Edge, first: usize, n: usize) -> bool
     requires { 8 * (first + n) ≤ length file.now }
     ensures { result ≡ any (λ i. conflict_of (edge_at file.now i) edge) n first }
 {
-    let mut left = n;
-    let mut at = first;
-    while 0 < left {
-        if conflict(edge_at(file, at), edge) {
-            return true;
-        }
-        at += 1;
-        left -= 1;
-    }
-    false
+    (first..first + n).any(|at| conflict(edge_at(file, at), edge))
 }
 
 // Whether transition t is just, where `places` has the transitions' records.
@@ -56,79 +43,65 @@ fn just(file: &[u8], outline: Outline, places: [usize; 32], t: usize) -> bool
 }
 
 // Whether an edge leads from a node that it may, and not up unless it may.
+#[tactic(auto, unfolding(crate::specs::Edge::leads_of))]
 fn leads(property: Property, edge: Edge) -> bool
     ensures { result ≡ leads_of property edge }
 {
-    if edge.from < property.from {
-        return false;
-    }
-    if property.rising {
-        return true;
-    }
-    edge.to <= edge.from
+    property.from <= edge.from && (property.rising || edge.to <= edge.from)
 }
 
 // Whether a double edge leads down, or anywhere where edges may.
+#[tactic(auto, unfolding(crate::specs::Edge::falls_of))]
 fn falls(property: Property, edge: Edge) -> bool
     ensures { result ≡ falls_of property edge }
 {
-    if property.rising {
-        return true;
-    }
-    edge.to < edge.from
+    property.rising || edge.to < edge.from
 }
 
 // Whether an edge of a diagram that has double edges obeys the rules of those.
+#[tactic(auto, unfolding(crate::specs::Edge::double_rule_of))]
 fn double_rule(file: &[u8], outline: Outline, places: [usize; 32], at: usize) -> bool
     requires { EdgeFits file.now outline places at }
     ensures { result ≡ double_rule_of file.now outline at }
 {
     let edge = edge_at(file, at);
     let first = outline.edge;
-    if conflicts(file, edge, first, at - first) {
-        return false;
-    }
-    if !edge.double {
-        return true;
-    }
-    if !falls(property_of(claim_at(file, outline.property)), edge) {
-        return false;
-    }
-    just(file, outline, places, edge.transition)
+    !conflicts(file, edge, first, at - first)
+        && (!edge.double
+            || (falls(property_of(claim_at(file, outline.property)), edge)
+                && just(file, outline, places, edge.transition)))
 }
 
 // Whether the edge at `at` obeys the edge rules, given the edges before it.
+#[tactic(auto, unfolding(crate::specs::Edge::rule_of))]
 fn rule(file: &[u8], outline: Outline, places: [usize; 32], at: usize) -> bool
     requires { EdgeFits file.now outline places at }
     ensures { result ≡ rule_of file.now outline at }
 {
     let property = property_of(claim_at(file, outline.property));
     let edge = edge_at(file, at);
-    if !leads(property, edge) {
-        return false;
-    }
-    if property.doubles {
-        return double_rule(file, outline, places, at);
-    }
-    !edge.double
+    leads(property, edge)
+        && if property.doubles {
+            double_rule(file, outline, places, at)
+        } else {
+            !edge.double
+        }
 }
 
 // Refusal 9 at the first edge that breaks a rule.
-pub(crate) fn rules(file: &[u8], outline: Outline) -> Walked
+#[tactic(auto, using(crate::proofs::Steps::Edge::refuse_steps), unfolding(crate::specs::Edge::rules_of))]
+pub(crate) fn rules(file: &[u8], outline: Outline) -> Result<usize, Refusal>
     requires { OutlineFits file.now outline }
     ensures { result ≡ rules_of file.now outline }
 {
     let places = transition_places(file, outline.vars, outline.transitions, outline.transition);
-    let mut left = outline.edges;
-    let mut at = outline.edge;
-    while 0 < left {
+    let end = outline.edge + outline.edges;
+    for at in outline.edge..end {
         if !rule(file, outline, places, at) {
-            return Walked::Refused(9, at);
+            return Err(Refusal::Edge(at));
         }
-        at += 1;
-        left -= 1;
     }
-    Walked::End(at)
+    Ok(end)
 }
 
 // Whether a double edge leads from the node.
@@ -136,40 +109,23 @@ fn doubled(file: &[u8], outline: Outline, node: usize) -> bool
     requires { OutlineFits file.now outline }
     ensures { result ≡ doubled_of file.now outline node }
 {
-    let mut left = outline.edges;
-    let mut at = outline.edge;
-    while 0 < left {
-        if double_from(edge_at(file, at), node) {
-            return true;
-        }
-        at += 1;
-        left -= 1;
-    }
-    false
+    (outline.edge..outline.edge + outline.edges).any(|at| double_from(edge_at(file, at), node))
 }
 
 // Refusal 10 at the lowest node that lacks its double edge.
-pub(crate) fn doubles(file: &[u8], outline: Outline) -> Walked
+#[tactic(auto, using(crate::proofs::Steps::Edge::refuse_steps), unfolding(crate::specs::Edge::doubles_of))]
+pub(crate) fn doubles(file: &[u8], outline: Outline) -> Result<usize, Refusal>
     requires { OutlineFits file.now outline }
     ensures { result ≡ doubles_of file.now outline }
 {
     let property = property_of(claim_at(file, outline.property));
     if !property.doubles {
-        return Walked::End(0);
+        return Ok(0);
     }
-    let nodes = outline.nodes;
-    let from = property.from;
-    if nodes < from {
-        return Walked::End(from);
-    }
-    let mut left = nodes - from;
-    let mut node = from;
-    while 0 < left {
+    for node in property.from..outline.nodes {
         if !doubled(file, outline, node) {
-            return Walked::Refused(10, node);
+            return Err(Refusal::NoWayDown(node));
         }
-        node += 1;
-        left -= 1;
     }
-    Walked::End(node)
+    Ok(property.from.max(outline.nodes))
 }

@@ -3,11 +3,12 @@ ghost use Rattle.std.specs.Prelude.{◌≡◌, ◌+◌, ◌*◌, ◌≤◌, leng
 ghost use Rattle.reading.specs.States.{size_at, states_of};
 ghost use Rattle.reading.specs.Picks.{past_record, picks_of};
 
-use records::walk::Walked;
 use records::{kind_is, value_at};
+use shapes::Refusal;
 use states::size;
 
 // How many values the variable or pick at record `at` has.
+#[tactic(auto, unfolding(crate::specs::States::size_at))]
 fn range_size(file: &[u8], at: usize) -> usize
     requires { 8 * at + 8 ≤ length file.now }
     ensures { (result ≡ size_at file.now at) × (result ≤ 65536) }
@@ -15,29 +16,26 @@ fn range_size(file: &[u8], at: usize) -> usize
     let low = value_at(file, 8 * at + 2);
     let high = value_at(file, 8 * at + 4);
     if high < low {
-        return size(high, low);
+        size(high, low)
+    } else {
+        size(low, high)
     }
-    size(low, high)
 }
 
 // How many states the file has, or refusal 7 at the variable where they pass the limit.
-pub fn states(file: &[u8], vars: usize) -> Walked
+#[tactic(auto, using(crate::proofs::Steps::States::states_steps))]
+pub fn states(file: &[u8], vars: usize) -> Result<usize, Refusal>
     requires { 8 * vars ≤ length file.now }
     ensures { result ≡ states_of file.now vars 0 1 }
 {
-    let mut left = vars;
-    let mut at: usize = 0;
     let mut product: usize = 1;
-    while 0 < left {
-        let next = product * range_size(file, at);
-        if 1048576 < next {
-            return Walked::Refused(7, at);
+    for at in 0..vars {
+        product *= range_size(file, at);
+        if 1048576 < product {
+            return Err(Refusal::States(at));
         }
-        product = next;
-        at += 1;
-        left -= 1;
     }
-    Walked::End(product)
+    Ok(product)
 }
 
 // The record of the transition met last, and how many combinations its picks so far have.
@@ -48,42 +46,41 @@ pub struct Combined {
 }
 
 // The record at `at` more, where p is for those before.
+#[tactic(auto, unfolding(crate::specs::Picks::past_record))]
 fn past(file: &[u8], at: usize, p: Combined) -> Combined
     requires { (8 * at + 8 ≤ length file.now) × (p.product ≤ 4096) }
     ensures { result ≡ past_record file.now at p }
 {
     if kind_is(file, 0x03, at) {
-        return Combined {
+        Combined {
             place: at,
             product: 1,
-        };
-    }
-    if kind_is(file, 0x08, at) {
-        return Combined {
+        }
+    } else if kind_is(file, 0x08, at) {
+        Combined {
             place: p.place,
             product: p.product * range_size(file, at),
-        };
+        }
+    } else {
+        p
     }
-    p
 }
 
 // Refusal 22 at the first transition with more than 4,096 combinations of picks.
-pub fn picks(file: &[u8]) -> Walked
+#[tactic(auto, using(crate::proofs::Steps::Picks::picks_steps), unfolding(crate::specs::Picks::picks_of))]
+pub fn picks(file: &[u8]) -> Result<usize, Refusal>
     ensures { result ≡ picks_of file.now }
 {
-    let mut left = file.len() / 8;
-    let mut at: usize = 0;
+    let records = file.len() / 8;
     let mut p = Combined {
         place: 0,
         product: 1,
     };
-    while 0 < left {
+    for at in 0..records {
         p = past(file, at, p);
         if 4096 < p.product {
-            return Walked::Refused(22, p.place);
+            return Err(Refusal::Picks(p.place));
         }
-        at += 1;
-        left -= 1;
     }
-    Walked::End(at)
+    Ok(records)
 }

@@ -1,7 +1,8 @@
 -- The forms of record that expressions are made of, by which proofs split: the kinds of a form are judged and evaluated alike.
 use Rattle.std.specs.Prelude.{ℕ, List}
 use Rattle.records.specs.Record.{kind_at}
-use Rattle.records.specs.Kind.{within, none, number, truth, divisor, row}
+use Rattle.records.specs.Kind.{within, number, truth, divisor, row, no_row}
+use Rattle.records.specs.declared.kinds.Operands.TheVariants.{Zero, One, Two}
 use Rattle.records.specs.declared.kinds.Signature.{Signature}
 
 pub data Form : Type 0 where
@@ -35,13 +36,13 @@ form_at file at = form_of (kind_at file at)
 
 -- the signature of a form's kinds
 abbrev pub row_of : Form → Signature
-row_of Constant = row number 0 none none
-row_of Variable = row number 0 none none
-row_of Arithmetic = row number 2 number number
-row_of Indicator = row number 1 truth none
-row_of Division = row number 2 number divisor
-row_of Literal = row truth 0 none none
-row_of Negation = row truth 1 truth none
-row_of Connective = row truth 2 truth truth
-row_of Comparison = row truth 2 number number
-row_of Unfit = row none 0 none none
+row_of Constant = row number Zero
+row_of Variable = row number Zero
+row_of Arithmetic = row number (Two number number)
+row_of Indicator = row number (One truth)
+row_of Division = row number (Two number divisor)
+row_of Literal = row truth Zero
+row_of Negation = row truth (One truth)
+row_of Connective = row truth (Two truth truth)
+row_of Comparison = row truth (Two number number)
+row_of Unfit = no_row

@@ -11,10 +11,7 @@ ghost use Rattle.records.specs.Record.{word, value, zeros_of, same_bytes, kind_i
 pub fn byte_at(file: &[u8], i: usize) -> u8
     ensures { result ≡ get_or file.now i 0 }
 {
-    if i < file.len() {
-        return file[i];
-    }
-    0
+    if i < file.len() { file[i] } else { 0 }
 }
 
 // The signed 16-bit number at byte i, low byte first.
@@ -30,7 +27,7 @@ pub fn wide_value_at(file: &[u8], i: usize) -> i64
     requires { i < 2 ^ 63 }
     ensures { result ≡ value file.now i }
 {
-    integers::state::widen(value_at(file, i))
+    i64::from(value_at(file, i))
 }
 
 // The 16 bits at byte i, low byte first.
@@ -38,7 +35,7 @@ pub fn word_at(file: &[u8], i: usize) -> usize
     requires { i + 2 ≤ length file.now }
     ensures { (result ≡ word file.now i) × (result < 65536) }
 {
-    file[i] as usize + 256 * (file[i + 1] as usize)
+    usize::from(u16::from_le_bytes([file[i], file[i + 1]]))
 }
 
 // Whether the n bytes from `from` on are all zero.
@@ -46,16 +43,7 @@ pub fn zeros(file: &[u8], from: usize, n: usize) -> bool
     requires { from + n ≤ length file.now }
     ensures { result ≡ zeros_of file.now from n }
 {
-    let mut at = from;
-    let mut left = n;
-    while 0 < left {
-        if file[at] != 0 {
-            return false;
-        }
-        at += 1;
-        left -= 1;
-    }
-    true
+    file[from..from + n].iter().all(|byte| *byte == 0)
 }
 
 // Whether the n bytes from i on are those from j on.
@@ -63,26 +51,12 @@ pub fn same_bytes(file: &[u8], i: usize, j: usize, n: usize) -> bool
     requires { (i + n ≤ length file.now) × (j + n ≤ length file.now) }
     ensures { result ≡ same_bytes file.now i j n }
 {
-    let mut left = n;
-    let mut k = i;
-    let mut m = j;
-    while 0 < left {
-        if file[k] != file[m] {
-            return false;
-        }
-        k += 1;
-        m += 1;
-        left -= 1;
-    }
-    true
+    file[i..i + n] == file[j..j + n]
 }
 
 // Whether there is a record at `at`, of this kind.
 pub fn kind_is(file: &[u8], kind: u8, at: usize) -> bool
     ensures { result ≡ kind_is file.now kind at }
 {
-    if at < file.len() / 8 {
-        return file[8 * at] == kind;
-    }
-    false
+    at < file.len() / 8 && file[8 * at] == kind
 }

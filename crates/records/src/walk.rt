@@ -2,15 +2,9 @@
 ghost use Rattle.std.specs.Prelude.{◌≡◌, ◌+◌, ◌*◌, ◌≤◌, length};
 ghost use Rattle.records.specs.Walk.{expression_fields, suits, in_sequence, walk_of, truth_of};
 
-use crate::kinds::{DIVISOR, TRUTH, signature_at, sort_for};
+use crate::kinds::{Operands, Sort, signature_at};
 use crate::{value_at, zeros};
-
-// Where the walk of a part of the file ends: at the record behind it, or refused, with the number and the record.
-#[derive(Clone, Copy)]
-pub enum Walked {
-    End(usize),
-    Refused(u8, usize),
-}
+use shapes::Refusal;
 
 // Whether an expression's record at `at` has only the field that its kind names: a constant b, a variable a.
 fn expression_fields(file: &[u8], at: usize, vars: usize) -> bool
@@ -18,93 +12,74 @@ fn expression_fields(file: &[u8], at: usize, vars: usize) -> bool
     ensures { result ≡ expression_fields file.now vars at }
 {
     let base = 8 * at;
-    let kind = file[base];
-    if kind == 0x10 {
-        if zeros(file, base + 1, 1) {
-            return zeros(file, base + 4, 4);
-        }
-        return false;
+    match file[base] {
+        0x10 => zeros(file, base + 1, 1) && zeros(file, base + 4, 4),
+        0x11 => usize::from(file[base + 1]) < vars && zeros(file, base + 2, 6),
+        _ => zeros(file, base + 1, 7),
     }
-    if kind == 0x11 {
-        if (file[base + 1] as usize) < vars {
-            return zeros(file, base + 2, 6);
-        }
-        return false;
-    }
-    zeros(file, base + 1, 7)
 }
 
 // Whether, where a divisor is asked, the record at `at` is a constant above 0.
-fn suits(file: &[u8], at: usize, want: u8) -> bool
+fn suits(file: &[u8], at: usize, want: Sort) -> bool
     requires { 8 * at + 8 ≤ length file.now }
     ensures { result ≡ suits file.now want at }
 {
-    if want != DIVISOR {
-        return true;
+    match want {
+        Sort::Divisor => file[8 * at] == 0x10 && 0 < value_at(file, 8 * at + 2),
+        Sort::Number | Sort::Truth => true,
     }
-    if file[8 * at] != 0x10 {
-        return false;
-    }
-    0 < value_at(file, 8 * at + 2)
 }
 
-// Walks the expression asked for as `want`, a sort or a divisor, at record `at`, with `levels` nesting levels left.
-pub fn walk(file: &[u8], at: usize, want: u8, vars: usize, levels: usize) -> Walked
+// Walks the expression asked for as `want`, a sort or a divisor, at record `at`, with `levels` nesting levels left: to the record behind it.
+pub fn walk(
+    file: &[u8],
+    at: usize,
+    want: Sort,
+    vars: usize,
+    levels: usize,
+) -> Result<usize, Refusal>
     ensures { result ≡ walk_of file.now vars levels want at }
 {
     if file.len() / 8 <= at {
-        return Walked::Refused(3, at);
+        return Err(Refusal::Kind(at));
     }
     let signature = signature_at(file, at);
-    let sort = signature.sort;
-    if sort != sort_for(want) {
-        return Walked::Refused(3, at);
+    if signature.sort != Some(want.stands()) {
+        return Err(Refusal::Kind(at));
     }
     if !expression_fields(file, at, vars) {
-        return Walked::Refused(4, at);
+        return Err(Refusal::Field(at));
     }
     if levels == 0 {
-        return Walked::Refused(5, at);
+        return Err(Refusal::Limit(at));
     }
     if !suits(file, at, want) {
-        return Walked::Refused(19, at);
+        return Err(Refusal::Divisor(at));
     }
-    let second = signature.second;
-    let mut over = signature.first;
-    let mut left = signature.operands;
-    let mut next = at + 1;
-    while 0 < left {
-        let operand = walk(file, next, over, vars, levels - 1);
-        match operand {
-            Walked::End(end) => next = end,
-            Walked::Refused(number, place) => return Walked::Refused(number, place),
+    match signature.operands {
+        Operands::Zero => Ok(at + 1),
+        Operands::One(first) => walk(file, at + 1, first, vars, levels - 1),
+        Operands::Two(first, second) => {
+            let next = walk(file, at + 1, first, vars, levels - 1)?;
+            walk(file, next, second, vars, levels - 1)
         }
-        over = second;
-        left -= 1;
     }
-    Walked::End(next)
 }
 
-// n expressions of a sort, one behind the other, from record `at` on.
-pub fn sequence(file: &[u8], sort: u8, vars: usize, n: usize, at: usize) -> Walked
+// n expressions of a sort, one behind the other, from record `at` on: to the record behind them.
+pub fn sequence(file: &[u8], sort: Sort, vars: usize, n: usize, at: usize) -> Result<usize, Refusal>
     ensures { result ≡ in_sequence (walk_of file.now vars 16 sort) n at }
 {
-    let mut left = n;
     let mut next = at;
-    while 0 < left {
-        let part = walk(file, next, sort, vars, 16);
-        match part {
-            Walked::End(end) => next = end,
-            Walked::Refused(number, place) => return Walked::Refused(number, place),
-        }
-        left -= 1;
+    for _ in 0..n {
+        next = walk(file, next, sort, vars, 16)?;
     }
-    Walked::End(next)
+    Ok(next)
 }
 
 // n truth expressions.
-pub fn truths(file: &[u8], vars: usize, n: usize, at: usize) -> Walked
+pub fn truths(file: &[u8], vars: usize, n: usize, at: usize) -> Result<usize, Refusal>
     ensures { result ≡ in_sequence (truth_of file.now vars) n at }
 {
-    sequence(file, TRUTH, vars, n, at)
+    sequence(file, Sort::Truth, vars, n, at)
 }

@@ -24,14 +24,9 @@ fn put_values(values: [i16; 12], report: &mut [u8])
     requires { 32 ≤ length report.old }
     ensures { report.new ≡ take 8 report.old ++ (value_bytes values ++ drop 32 report.old) }
 {
-    let mut i: usize = 0;
-    while i < 12 {
-        let value = values[i];
-        let low = low_byte(value);
-        let high = high_byte(value);
-        report[2 * i + 8] = low;
-        report[2 * i + 9] = high;
-        i += 1;
+    for (i, value) in values.iter().enumerate() {
+        report[2 * i + 8] = low_byte(*value);
+        report[2 * i + 9] = high_byte(*value);
     }
 }
 
@@ -42,15 +37,15 @@ pub fn write_report(verdict: Verdict, report: &mut [u8])
     if report.len() < 32 {
         return;
     }
-    let at = verdict.at;
-    let values = verdict.values;
-    report[0] = verdict.number;
-    report[1] = verdict.node;
-    report[2] = verdict.transition;
-    report[3] = 0;
-    report[4] = (at % 256) as u8;
-    report[5] = (at / 256 % 256) as u8;
-    report[6] = (at / 65536 % 256) as u8;
-    report[7] = (at / 16777216) as u8;
+    let Verdict {
+        number,
+        node,
+        transition,
+        at,
+        values,
+        ..
+    } = verdict;
+    let [a, b, c, d] = at.to_le_bytes();
+    report[..8].copy_from_slice(&[number, node, transition, 0, a, b, c, d]);
     put_values(values, report);
 }

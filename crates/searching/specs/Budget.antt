@@ -4,7 +4,8 @@ use Rattle.testing.specs.declared.Test.{Test}
 
 -- the records that a box may have to look at, by the table of lengths: premise, guard, and as many targets as long as the first
 unfoldable pub records_of : List ℕ → Test → ℕ
-records_of spans test = get_or spans test.premise 0 + get_or spans (test.transition + 1) 0 + test.count * get_or spans (get_or test.targets 0 0) 0
+records_of spans test =
+    get_or spans test.premise 0 + get_or spans (test.transition + 1) 0 + test.targets.count * get_or spans (get_or test.targets.places 0 0) 0
 
 -- so few boxes that all of them together look at no more than two records for each state
 unfoldable pub fair_of : List ℕ → Test → ℕ → ℕ

@@ -1,6 +1,6 @@
 // How many boxes the search may look at for a condition. A box costs more than a state, up to all records of the condition, where a state may be done
 // with the first of them: so a condition that boxes don't decide costs little more than the loop over the states alone.
-ghost use Rattle.std.specs.Prelude.{◌≡◌, ◌+◌, ◌*◌, ◌≤◌, length, get_or};
+ghost use Rattle.std.specs.Prelude.{◌≡◌, ◌+◌, ◌*◌, ◌≤◌, ◌<◌, length, get_or};
 ghost use Rattle.searching.specs.Budget.{records_of, budget_of};
 
 use testing::Test;
@@ -9,40 +9,24 @@ use testing::Test;
 fn length_at(spans: &[u16], at: usize) -> usize
     ensures { (result ≡ get_or spans.now at 0) × (result ≤ 65535) }
 {
-    if at < spans.len() {
-        spans[at] as usize
-    } else {
-        0
-    }
+    spans.get(at).map_or(0, |&n| n as usize)
 }
 
-// And at the record behind.
-fn length_behind(spans: &[u16], at: usize) -> usize
-    requires { length spans.now ≤ 4096 }
-    ensures { (result ≡ get_or spans.now (at + 1) 0) × (result ≤ 65535) }
-{
-    if at < 4096 {
-        length_at(spans, at + 1)
-    } else {
-        0
-    }
-}
-
-// The records that a box may have to look at.
-fn records(spans: &[u16; 4096], test: Test) -> usize
-    requires { test.count ≤ 32 }
+// The records that a box may have to look at. The guard stands behind its transition's record.
+fn records(spans: &[u16], test: Test) -> usize
+    requires some { 0 < length spans.now }
+    requires few { test.targets.count ≤ 32 }
     ensures { (result ≡ records_of spans.now test) × (result ≤ 34 * 65535) }
 {
-    let targets = test.targets;
-    let own = length_at(spans, test.premise) + length_behind(spans, test.transition);
-    own + test.count * length_at(spans, targets[0] as usize)
+    let own = length_at(spans, test.premise) + length_at(&spans[1..], test.transition);
+    own + test.targets.count * length_at(spans, test.targets.places[0] as usize)
 }
 
 // At most `most` of them.
+#[tactic(auto, unfolding(crate::specs::Budget::budget_of, crate::specs::Budget::fair_of))]
 pub fn budget(spans: &[u16; 4096], test: Test, states: usize, most: usize) -> usize
-    requires { test.count ≤ 32 }
+    requires { test.targets.count ≤ 32 }
     ensures { result ≡ budget_of spans.now test states most }
 {
-    let fair = states / (32 + records(spans, test) / 2);
-    if most < fair { most } else { fair }
+    most.min(states / (32 + records(spans, test) / 2))
 }

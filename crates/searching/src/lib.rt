@@ -44,6 +44,7 @@ pub struct Skipped {
 }
 
 // Sure only where the condition holds at every state of the box. The box is halved `depth` times at most, and at most `budget` boxes are looked at.
+#[tactic(auto, unfolding(crate::specs::Search::decide_of, crate::specs::Search::decided_by, crate::specs::Search::halves_of))]
 fn decide(
     file: &[u8],
     spans: &[u16; 4096],
@@ -57,33 +58,20 @@ fn decide(
     requires part { Part search.ranges b }
     ensures { result ≡ decide_of depth file.now search b budget }
 {
-    if depth == 0 {
+    if depth == 0 || budget == 0 {
         return Decided {
             sure: false,
             left: budget,
         };
     }
-    if budget == 0 {
-        return Decided {
-            sure: false,
-            left: 0,
-        };
-    }
     let left = budget - 1;
-    let ranges = search.ranges;
-    let test = search.test;
+    let Search { ranges, test } = search;
     let wide = first_wide(b);
-    if 12 <= wide {
-        let low = ranges.low;
-        let high = ranges.high;
-        let state = b.low;
-        return Decided {
-            sure: passes(file, spans, low, high, test, state),
-            left,
-        };
+    if wide >= 12 {
+        let sure = passes(file, spans, ranges.low, ranges.high, test, b.low);
+        return Decided { sure, left };
     }
-    let seen = passes_in(file, spans, ranges, test, b);
-    match seen {
+    match passes_in(file, spans, ranges, test, b) {
         Seen::Yes => Decided { sure: true, left },
         Seen::No => Decided { sure: false, left },
         Seen::Unsure(blamed) => {
@@ -99,6 +87,7 @@ fn decide(
 
 // A state of the box, where the condition holds at every state of the box before it: the box is halved at its first variable with more than one value,
 // and its lower half left behind where the condition holds at all of it.
+#[tactic(auto, unfolding(crate::specs::Search::narrow_of))]
 fn narrow(
     file: &[u8],
     spans: &[u16; 4096],
@@ -113,10 +102,7 @@ fn narrow(
     ensures { result ≡ narrow_of depth file.now search b budget }
 {
     let wide = first_wide(b);
-    if depth == 0 {
-        return b.low;
-    }
-    if 12 <= wide {
+    if depth == 0 || wide >= 12 {
         return b.low;
     }
     let half = lower(b, wide);
@@ -128,6 +114,7 @@ fn narrow(
 }
 
 // As `from`, or further on, by looking at so many boxes at most.
+#[tactic(auto, unfolding(crate::specs::Search::skip_of))]
 pub fn skip(
     file: &[u8],
     spans: &[u16; 4096],
@@ -145,20 +132,19 @@ pub fn skip(
     if budget == 0 {
         return from;
     }
-    let ranges = search.ranges;
-    let low = ranges.low;
-    let high = ranges.high;
-    let whole = decide(file, spans, search, ranges, HALVINGS, budget);
+    let Box { low, high } = search.ranges;
+    let whole = decide(file, spans, search, search.ranges, HALVINGS, budget);
     if whole.sure {
         return Skipped {
             state: low,
             number: states,
         };
     }
-    let state = narrow(file, spans, search, ranges, HALVINGS, whole.left);
+    let state = narrow(file, spans, search, search.ranges, HALVINGS, whole.left);
     let number = number_of(low, high, state);
-    if number <= from.number {
-        return from;
+    if number > from.number {
+        Skipped { state, number }
+    } else {
+        from
     }
-    Skipped { state, number }
 }

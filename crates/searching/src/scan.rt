@@ -17,7 +17,7 @@ use states::advance;
 use testing::Test;
 use testing::tests::concludes;
 
-// More than there are states: from this number on boxes are not asked.
+// More than there are states: from this number on boxes are not asked. Not an Option, which costs the loops over the states a branch more at each.
 const UNASKED: usize = 1048577;
 
 // How far a loop over the states has come: to this state, which has this number; boxes are asked from that number on.
@@ -29,6 +29,7 @@ pub struct Scan {
 }
 
 // From which number on boxes are asked first.
+#[tactic(auto, unfolding(crate::specs::Scan::ask_of))]
 pub fn first_ask(by_boxes: bool) -> usize
     ensures { result ≡ ask_of by_boxes }
 {
@@ -36,6 +37,7 @@ pub fn first_ask(by_boxes: bool) -> usize
 }
 
 // Asks boxes: as far as before, or further on.
+#[tactic(auto, unfolding(crate::specs::Scan::onward_of))]
 pub fn onward(file: &[u8], spans: &[u16; 4096], search: Search, states: usize, from: Scan) -> Scan
     requires spans { Spans file.now spans.now }
     requires fits { TestFits search.ranges.low search.ranges.high file.now search.test }
@@ -44,19 +46,14 @@ pub fn onward(file: &[u8], spans: &[u16; 4096], search: Search, states: usize, f
     requires asked { from.ask ≤ 1048576 }
     ensures { result ≡ onward_of file.now spans.now search states from }
 {
-    let test = search.test;
-    let state = from.state;
-    let ask = from.ask * 64;
-    let boxes = budget(spans, test, states, ask);
-    let here = Skipped {
-        state,
-        number: from.number,
-    };
-    let found = skip(file, spans, search, states, here, boxes);
-    let state = found.state;
+    let Scan { state, number, ask } = from;
+    let ask = ask * 64;
+    let boxes = budget(spans, search.test, states, ask);
+    let here = Skipped { state, number };
+    let Skipped { state, number } = skip(file, spans, search, states, here, boxes);
     Scan {
         state,
-        number: found.number,
+        number,
         ask: if boxes < ask { UNASKED } else { ask },
     }
 }
@@ -74,21 +71,27 @@ pub fn first_failing(
     requires fits { TestFits diagram.low diagram.high file.now test }
     ensures { result ≡ failing_of file.now diagram test }
 {
-    let low = diagram.low;
-    let high = diagram.high;
-    let states = diagram.states;
-    let premise = test.premise;
-    let ranges = Box { low, high };
-    let search = Search { ranges, test };
+    let Diagram {
+        low,
+        high,
+        states,
+        ..
+    } = diagram;
+    let search = Search {
+        ranges: Box { low, high },
+        test,
+    };
     let mut ask = first_ask(by_boxes);
     let mut state = low;
-    let mut n: usize = 0;
+    let mut n = 0;
+    // Boxes skip states, so no range counts them.
     while n < states {
+        // Worked out before the test, which then needn't wait for it.
         let next = advance(low, high, diagram.vars, state);
-        if holds(file, spans, premise, state) {
-            if !concludes(file, spans, low, high, test, state) {
-                return n;
-            }
+        if holds(file, spans, test.premise, state)
+            && !concludes(file, spans, low, high, test, state)
+        {
+            return n;
         }
         state = next;
         n += 1;

@@ -1,4 +1,4 @@
--- What a diagram is made of: the table of properties, edges; and what reading answers.
+-- What a diagram is made of: the table of properties, edges; and the refusals.
 pub mod Property
 pub mod Edge
-pub mod Reading
+pub mod Refusal

@@ -1,9 +1,10 @@
-// What every layer speaks of, as values: what a property asks, a row of a table; an edge; where the parts of a file stand; and what reading a file answers.
+// What every layer speaks of, as values: what a property asks, a row of a table; an edge; where the parts of a file stand; and why a file is refused.
 #![tactic(auto)]
 
 ghost use Rattle.std.specs.Prelude.{◌≡◌};
 ghost use Rattle.shapes.specs.Property.{claim_of, property_of};
 ghost use Rattle.shapes.specs.Edge.{double_from};
+ghost use Rattle.shapes.specs.Refusal.{refused_number, refused_place};
 
 // What a property claims.
 #[derive(Clone, Copy)]
@@ -53,21 +54,79 @@ pub struct Outline {
     pub edges: usize,
 }
 
-// The outline of a file, or the refusal that meets it, with its number and its place.
-#[derive(Clone, Copy)]
-pub enum Reading {
-    Found(Outline),
-    Refused(u8, usize),
+// Why a file is refused, or a call on one: what meets it first, at a record, a variable or a node.
+#[derive(Clone, Copy, Debug, PartialEq, Eq)]
+pub enum Refusal {
+    Buffer,
+    Length,
+    Kind(usize),
+    Field(usize),
+    Limit(usize),
+    Repetition(usize),
+    States(usize),
+    Interval(usize),
+    Edge(usize),
+    NoWayDown(usize),
+    ConditionNumber,
+    StateNumber,
+    Divisor(usize),
+    NoStart,
+    Picks(usize),
+}
+
+impl Refusal {
+    // Its number, as reports and answers have it.
+    pub fn number(self) -> u8
+        ensures { result ≡ refused_number self }
+    {
+        match self {
+            Refusal::Buffer => 1,
+            Refusal::Length => 2,
+            Refusal::Kind(_) => 3,
+            Refusal::Field(_) => 4,
+            Refusal::Limit(_) => 5,
+            Refusal::Repetition(_) => 6,
+            Refusal::States(_) => 7,
+            Refusal::Interval(_) => 8,
+            Refusal::Edge(_) => 9,
+            Refusal::NoWayDown(_) => 10,
+            Refusal::ConditionNumber => 11,
+            Refusal::StateNumber => 12,
+            Refusal::Divisor(_) => 19,
+            Refusal::NoStart => 20,
+            Refusal::Picks(_) => 22,
+        }
+    }
+
+    // Its place: the record, the variable or the node; 0 where it has none.
+    pub fn place(self) -> usize
+        ensures { result ≡ refused_place self }
+    {
+        match self {
+            Refusal::Kind(at)
+            | Refusal::Field(at)
+            | Refusal::Limit(at)
+            | Refusal::Repetition(at)
+            | Refusal::States(at)
+            | Refusal::Interval(at)
+            | Refusal::Edge(at)
+            | Refusal::Divisor(at)
+            | Refusal::Picks(at) => at,
+            Refusal::NoWayDown(node) => node,
+            Refusal::Buffer
+            | Refusal::Length
+            | Refusal::ConditionNumber
+            | Refusal::StateNumber
+            | Refusal::NoStart => 0,
+        }
+    }
 }
 
 // Whether the edge is double and leads from the node.
 pub fn double_from(edge: Edge, node: usize) -> bool
     ensures { result ≡ double_from node edge }
 {
-    if edge.double {
-        return edge.from == node;
-    }
-    false
+    edge.double && edge.from == node
 }
 
 // The claim of a property's a.

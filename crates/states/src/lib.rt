@@ -23,10 +23,8 @@ pub fn count(low: [i16; 12], high: [i16; 12]) -> usize
     requires most { count_of low high ≤ 1048576 }
     ensures { result ≡ count_of low high }
 {
-    let mut product: usize = 1;
-    let mut i: usize = 12;
-    while 0 < i {
-        i -= 1;
+    let mut product = 1;
+    for i in (0..12).rev() {
         product *= size(low[i], high[i]);
     }
     product
@@ -40,13 +38,9 @@ pub fn state_of(low: [i16; 12], high: [i16; 12], number: usize) -> [i16; 12]
 {
     let mut state = low;
     let mut rest = number;
-    let mut i: usize = 12;
-    while 0 < i {
-        i -= 1;
-        let l = low[i];
-        let h = high[i];
-        let n = size(l, h);
-        state[i] = value_at(l, h, (rest % n) as u32);
+    for i in (0..12).rev() {
+        let n = size(low[i], high[i]);
+        state[i] = value_at(low[i], high[i], (rest % n) as u32);
         rest /= n;
     }
     state
@@ -58,16 +52,11 @@ pub fn number_of(low: [i16; 12], high: [i16; 12], state: [i16; 12]) -> usize
     requires most { count_of low high ≤ 1048576 }
     ensures { result ≡ number_of low high state }
 {
-    let mut number: usize = 0;
-    let mut behind: usize = 1;
-    let mut i: usize = 12;
-    while 0 < i {
-        i -= 1;
-        let l = low[i];
-        let h = high[i];
-        let v = state[i];
-        number += offset_of(l, v) as usize * behind;
-        behind *= size(l, h);
+    let mut number = 0;
+    let mut behind = 1;
+    for i in (0..12).rev() {
+        number += offset_of(low[i], state[i]) as usize * behind;
+        behind *= size(low[i], high[i]);
     }
     number
 }
@@ -80,13 +69,9 @@ pub fn advance(low: [i16; 12], high: [i16; 12], vars: usize, state: [i16; 12]) -
     ensures { result ≡ advance_of low high state }
 {
     let mut next = state;
-    let mut i: usize = vars;
-    while 0 < i {
-        i -= 1;
-        let v = next[i];
-        let h = high[i];
-        if v < h {
-            next[i] = v + 1;
+    for i in (0..vars).rev() {
+        if next[i] < high[i] {
+            next[i] += 1;
             return next;
         }
         next[i] = low[i];
@@ -98,14 +83,5 @@ pub fn advance(low: [i16; 12], high: [i16; 12], vars: usize, state: [i16; 12]) -
 pub fn is_last(high: [i16; 12], state: [i16; 12]) -> bool
     ensures { result ≡ last_of high state }
 {
-    let mut i: usize = 0;
-    while i < 12 {
-        let v = state[i];
-        let h = high[i];
-        if v < h {
-            return false;
-        }
-        i += 1;
-    }
-    true
+    high.iter().zip(&state).all(|(h, v)| *h <= *v)
 }

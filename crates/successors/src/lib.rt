@@ -15,8 +15,8 @@ use boxes::Box;
 use domains::extents::{Extent, at_most, cut};
 use domains::seen::{Seen, both, never};
 use enclosures::{number_in, seen_in};
+use expressions::after;
 use integers::Interval;
-use integers::state::widen;
 use records::{byte_at, kind_is, value_at};
 use sections::is_update;
 
@@ -48,22 +48,24 @@ fn point(v: i16) -> Extent
     ensures is { result ≡ point_of v }
     ensures bounded { Bounded result.span }
 {
-    let x = widen(v);
-    let span = Interval { low: x, high: x };
-    Extent { span, widest: 12 }
+    let x = i64::from(v);
+    Extent {
+        span: Interval { low: x, high: x },
+        widest: 12,
+    }
 }
 
 // Whether what variable i is set to lies in its range.
+#[tactic(auto, unfolding(crate::specs::Successor::range_in))]
 fn range_of(ranges: Box, i: usize, e: Extent) -> Seen
     requires variable { i < 12 }
     requires bounded { Bounded e.span }
     ensures { result ≡ range_in ranges i e }
 {
-    let low = ranges.low;
-    let high = ranges.high;
-    let l = low[i];
-    let h = high[i];
-    both(at_most(point(l), e), at_most(e, point(h)))
+    both(
+        at_most(point(ranges.low[i]), e),
+        at_most(e, point(ranges.high[i])),
+    )
 }
 
 // The number, or the end of the range of variable i that it lies beyond.
@@ -71,59 +73,50 @@ fn cut_in(ranges: Box, i: usize, x: i64) -> i16
     requires { i < 12 }
     ensures { result ≡ cut_in ranges i x }
 {
-    let low = ranges.low;
-    let high = ranges.high;
-    let l = low[i];
-    let h = high[i];
-    cut(widen(l), widen(h), x) as i16
+    cut(i64::from(ranges.low[i]), i64::from(ranges.high[i]), x) as i16
 }
 
 // The box with these ends for variable i.
-fn with(b: Box, i: usize, l: i16, h: i16) -> Box
+fn with(mut b: Box, i: usize, l: i16, h: i16) -> Box
     requires { i < 12 }
     ensures { result ≡ box (set b.low i l) (set b.high i h) }
 {
-    let mut low = b.low;
-    let mut high = b.high;
-    low[i] = l;
-    high[i] = h;
-    Box { low, high }
+    b.low[i] = l;
+    b.high[i] = h;
+    b
 }
 
 // One update more.
+#[tactic(auto, unfolding(crate::specs::Successor::toward_of))]
 fn toward(ranges: Box, m: Reached, t: Target) -> Reached
     requires variable { t.variable < 12 }
     requires bounded { Bounded t.extent.span }
     ensures { result ≡ toward_of ranges m t }
 {
     let i = t.variable;
-    let e = t.extent;
-    let s = e.span;
-    let a = s.low;
-    let z = s.high;
-    let seen = m.range;
-    let from = m.to;
-    let range = both(seen, range_of(ranges, i, e));
-    let to = with(from, i, cut_in(ranges, i, a), cut_in(ranges, i, z));
-    Reached { range, to }
+    let low = cut_in(ranges, i, t.extent.span.low);
+    let high = cut_in(ranges, i, t.extent.span.high);
+    Reached {
+        range: both(m.range, range_of(ranges, i, t.extent)),
+        to: with(m.to, i, low, high),
+    }
 }
 
 // The pick at record `at`.
+#[tactic(auto, unfolding(crate::specs::Successor::picked_at))]
 fn picked_at(file: &[u8], at: usize) -> Target
     requires { 8 * at + 8 ≤ length file.now }
     ensures is { result ≡ picked_at file.now at }
     ensures bounded { Bounded result.extent.span }
 {
-    let variable = byte_at(file, 8 * at + 1) as usize;
-    let l = value_at(file, 8 * at + 2);
-    let h = value_at(file, 8 * at + 4);
-    let low = widen(l);
-    let high = widen(h);
-    let span = Interval { low, high };
-    let extent = Extent { span, widest: 12 };
+    let low = i64::from(value_at(file, 8 * at + 2));
+    let high = i64::from(value_at(file, 8 * at + 4));
     Target {
-        variable,
-        extent,
+        variable: byte_at(file, 8 * at + 1) as usize,
+        extent: Extent {
+            span: Interval { low, high },
+            widest: 12,
+        },
         end: at + 1,
     }
 }
@@ -134,12 +127,10 @@ fn assigned_at(file: &[u8], spans: &[u16; 4096], at: usize, b: Box) -> Target
     requires spans { Spans file.now spans.now }
     ensures { result ≡ assigned_at file.now at b }
 {
-    let variable = byte_at(file, 8 * at + 1) as usize;
     let from = at + 1;
-    let extent = number_in(&file[8 * from..], spans, from, b, 16);
     Target {
-        variable,
-        extent,
+        variable: byte_at(file, 8 * at + 1) as usize,
+        extent: number_in(after(file, from), spans, from, b, 16),
         end: from + spans[from] as usize,
     }
 }
@@ -152,9 +143,10 @@ fn target_at(file: &[u8], spans: &[u16; 4096], at: usize, b: Box) -> Target
     ensures bounded { Bounded result.extent.span }
 {
     if kind_is(file, 0x08, at) {
-        return picked_at(file, at);
+        picked_at(file, at)
+    } else {
+        assigned_at(file, spans, at, b)
     }
-    assigned_at(file, spans, at, b)
 }
 
 // The updates from record `first` on, each by what is known of its values on the box b.
@@ -168,15 +160,13 @@ fn reach(file: &[u8], spans: &[u16; 4096], first: usize, ranges: Box, b: Box) ->
         to: b,
     };
     let mut at = first;
-    let mut left = file.len() / 8;
-    while 0 < left {
+    for _ in 0..file.len() / 8 {
         if !is_update(file, at) {
             return m;
         }
         let t = target_at(file, spans, at, b);
         m = toward(ranges, m, t);
         at = t.end;
-        left -= 1;
     }
     m
 }
@@ -197,7 +187,9 @@ pub fn next_in(file: &[u8], spans: &[u16; 4096], at: usize, ranges: Box, b: Box)
         };
     }
     let m = reach(file, spans, from + spans[from] as usize, ranges, b);
-    let range = m.range;
-    let to = m.to;
-    Moved { guard, range, to }
+    Moved {
+        guard,
+        range: m.range,
+        to: m.to,
+    }
 }

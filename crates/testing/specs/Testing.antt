@@ -49,7 +49,7 @@ chosen_of marks assertions n = targets_of (chosen_from marks assertions n 0)
 -- ---- the test of a condition
 unfoldable pub prepared_of : ℕ → Conclusion → ℕ → Targets → Test
 prepared_of premise conclusion transition targets =
-    record { premise = premise; conclusion = conclusion; transition = transition; targets = targets.places; count = targets.count }
+    record { premise = premise; conclusion = conclusion; transition = transition; targets = targets }
 
 -- where the assertion of node n stands
 abbrev assertion_at : Diagram → ℕ → ℕ
@@ -81,8 +81,11 @@ unfoldable pub some_in : List ℕ → List ℕ → Box → Seen
 some_in file [] b = No
 some_in file (at ∷ places) b = either_of (seen_of file at b) (some_in file places b)
 
+abbrev pub listed : Targets → List ℕ
+listed targets = take targets.count targets.places
+
 abbrev pub targets_listed : Test → List ℕ
-targets_listed test = take test.count test.targets
+targets_listed test = listed test.targets
 
 -- what the premise must imply
 unfoldable pub concludes_of : List ℤ → List ℤ → List ℕ → Test → Conclusion → List ℤ → Bool
@@ -115,7 +118,7 @@ FitsEverywhere lows highs file at = (state : List ℤ) → Within lows highs sta
 
 pub record TestFits (lows highs : List ℤ) (file : List ℕ) (test : Test) : Type 0 where
   pub premise : FitsEverywhere lows highs file test.premise
-  pub few : test.count ≤ 32
-  pub targets : (i : ℕ) → i < test.count → FitsEverywhere lows highs file (get_or test.targets i 0)
+  pub few : test.targets.count ≤ 32
+  pub targets : (i : ℕ) → i < test.targets.count → FitsEverywhere lows highs file (get_or test.targets.places i 0)
   pub transition : (test.conclusion ≡ Conclusion.SomeTarget → ⊥)
       → (state : List ℤ) → Within lows highs state → TransitionFits file test.transition state

@@ -30,24 +30,57 @@ pub struct Targets {
     pub count: usize,
 }
 
+impl Targets {
+    #[tactic(auto, unfolding(crate::specs::Testing::targets_of))]
+    fn one(place: usize) -> Targets
+        requires { place ≤ 4096 }
+        ensures { result ≡ targets_of (place ∷ []) }
+    {
+        let mut places = [0; 32];
+        places[0] = place as u16;
+        Targets { places, count: 1 }
+    }
+
+    #[tactic(auto, unfolding(crate::specs::Testing::targets_of))]
+    fn none() -> Targets
+        ensures { result ≡ targets_of [] }
+    {
+        Targets {
+            places: [0; 32],
+            count: 0,
+        }
+    }
+}
+
 // A condition, with the records that it speaks of.
 #[derive(Clone, Copy)]
 pub struct Test {
     pub premise: usize,
     pub conclusion: Conclusion,
     pub transition: usize,
-    pub targets: [u16; 32],
-    pub count: usize,
+    pub targets: Targets,
+}
+
+impl Test {
+    #[tactic(auto, unfolding(crate::specs::Testing::prepared_of))]
+    fn new(premise: usize, conclusion: Conclusion, transition: usize, targets: Targets) -> Test
+        ensures { result ≡ prepared_of premise conclusion transition targets }
+    {
+        Test {
+            premise,
+            conclusion,
+            transition,
+            targets,
+        }
+    }
 }
 
 // Whether the edge is one of this transition from this node.
+#[tactic(auto, using(conditions::proofs::Laws::Double::carries_is))]
 fn carries(node: usize, transition: usize, edge: Edge) -> bool
     ensures { result ≡ carries node transition edge }
 {
-    if edge.from != node {
-        return false;
-    }
-    edge.transition == transition
+    edge.from == node && edge.transition == transition
 }
 
 // The nodes that a step may lead to: the edges' targets, and the node itself where it may be kept.
@@ -58,14 +91,11 @@ fn marks(file: &[u8], diagram: Diagram, node: usize, transition: usize, keep: bo
 {
     let mut marks = [false; 32];
     marks[node] = keep;
-    let mut e: usize = 0;
-    while e < diagram.edges {
+    for e in 0..diagram.edges {
         let edge = edge_of(file, diagram, e);
         if carries(node, transition, edge) {
-            let to = edge.to;
-            marks[to] = true;
+            marks[edge.to] = true;
         }
-        e += 1;
     }
     marks
 }
@@ -76,95 +106,93 @@ fn choose(marks: [bool; 32], assertions: [usize; 32], n: usize) -> Targets
     requires small { (i : ℕ) → i < n → get_or assertions i 0 ≤ 4096 }
     ensures { result ≡ chosen_of marks assertions n }
 {
-    let mut places = [0u16; 32];
-    let mut count: usize = 0;
-    let mut i: usize = 0;
-    while i < n {
+    let mut places = [0; 32];
+    let mut count = 0;
+    for i in 0..n {
         if marks[i] {
             places[count] = assertions[i] as u16;
             count += 1;
         }
-        i += 1;
     }
     Targets { places, count }
 }
 
-// One place.
-fn one(place: usize) -> Targets
-    requires { place ≤ 4096 }
-    ensures { result ≡ targets_of (place ∷ []) }
-{
-    let mut places = [0u16; 32];
-    places[0] = place as u16;
-    Targets { places, count: 1 }
-}
-
-// No place.
-fn none() -> Targets
-    ensures { result ≡ targets_of [] }
-{
-    Targets {
-        places: [0u16; 32],
-        count: 0,
-    }
-}
-
-fn prepared(premise: usize, conclusion: Conclusion, transition: usize, targets: Targets) -> Test
-    ensures { result ≡ prepared_of premise conclusion transition targets }
-{
-    let places = targets.places;
-    Test {
-        premise,
-        conclusion,
-        transition,
-        targets: places,
-        count: targets.count,
-    }
-}
-
 // The test that the truth at a place is false.
+#[tactic(auto, unfolding(crate::specs::Testing::denial_of))]
 pub fn denial(place: usize) -> Test
     ensures { result ≡ denial_of place }
 {
-    let targets = none();
-    prepared(place, Conclusion::SomeTarget, 0, targets)
+    Test::new(place, Conclusion::SomeTarget, 0, Targets::none())
+}
+
+// The test of a condition that speaks of a transition: its premise is a node's assertion.
+fn of_transition(
+    diagram: Diagram,
+    node: usize,
+    transition: usize,
+    conclusion: Conclusion,
+    targets: Targets,
+) -> Test
+    requires { (node < 32) × (transition < 32) }
+    ensures { result ≡ prepared_of (get_or diagram.assertions node 0) conclusion (get_or diagram.steps transition 0) targets }
+{
+    Test::new(
+        diagram.assertions[node],
+        conclusion,
+        diagram.steps[transition],
+        targets,
+    )
 }
 
 // The test of a condition.
+#[tactic(auto, unfolding(crate::specs::Testing::test_of))]
 pub fn test_of(file: &[u8], diagram: Diagram, condition: Condition) -> Test
     requires loaded { Loaded file.now diagram }
     requires listed { Listed file.now diagram condition }
     ensures { result ≡ test_of file.now diagram condition }
 {
-    let assertions = diagram.assertions;
-    let steps = diagram.steps;
+    let Diagram {
+        assertions,
+        nodes,
+        ..
+    } = diagram;
     match condition {
         Condition::Start => {
-            let all = choose([true; 32], assertions, diagram.nodes);
-            prepared(diagram.start, Conclusion::SomeTarget, 0, all)
+            let all = choose([true; 32], assertions, nodes);
+            Test::new(diagram.start, Conclusion::SomeTarget, 0, all)
         }
         Condition::Entry => {
-            let all = choose([true; 32], assertions, diagram.nodes);
-            prepared(claimed_at(file, diagram, 0), Conclusion::SomeTarget, 0, all)
+            let all = choose([true; 32], assertions, nodes);
+            Test::new(claimed_at(file, diagram, 0), Conclusion::SomeTarget, 0, all)
         }
         Condition::Cover(n) => {
-            let q = one(q_at(file, diagram, n));
-            prepared(assertions[n], Conclusion::SomeTarget, 0, q)
+            let q = Targets::one(q_at(file, diagram, n));
+            Test::new(assertions[n], Conclusion::SomeTarget, 0, q)
         }
-        Condition::Range(n, t) => {
-            let step = steps[t];
-            prepared(assertions[n], Conclusion::ValuesInRange, step, none())
-        }
+        Condition::Range(n, t) => of_transition(
+            diagram,
+            n,
+            t,
+            Conclusion::ValuesInRange,
+            Targets::none(),
+        ),
         Condition::Step(n, t) => {
-            let step = steps[t];
             let keep = double_of(file, diagram, n) != t;
             let marks = marks(file, diagram, n, t, keep);
-            let targets = choose(marks, assertions, diagram.nodes);
-            prepared(assertions[n], Conclusion::Reached, step, targets)
+            of_transition(
+                diagram,
+                n,
+                t,
+                Conclusion::Reached,
+                choose(marks, assertions, nodes),
+            )
         }
-        Condition::Enabling(n, t) => {
-            let step = steps[t];
-            prepared(assertions[n], Conclusion::Enabled, step, none())
-        }
+        Condition::Enabling(n, t) => of_transition(
+            diagram,
+            n,
+            t,
+            Conclusion::Enabled,
+            Targets::none(),
+        ),
     }
 }

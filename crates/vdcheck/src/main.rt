@@ -31,6 +31,7 @@ fn receive<R: Read>(reader: &mut R, buffer: &mut [u8]) -> io::Result<usize>
     ensures failed { OnErr result ((bytes : List ℕ) × Consumes (R.remaining reader.old) (R.remaining reader.new) bytes) }
 {
     let mut length: usize = 0;
+    // A read gives as many bytes as it has, so no range counts them.
     while length < buffer.len() {
         let more = receive_some(reader, buffer, length)?;
         if more == 0 {

@@ -35,14 +35,9 @@ fn line(report: [u8; 32]) -> [u8; 65]
     ensures { result ≡ line_of report }
 {
     let mut line = [b'\n'; 65];
-    let mut i: usize = 0;
-    while i < 32 {
-        let byte = report[i];
-        let high = high_digit(byte);
-        let low = low_digit(byte);
-        line[2 * i] = high;
-        line[2 * i + 1] = low;
-        i += 1;
+    for (i, byte) in report.iter().enumerate() {
+        line[2 * i] = high_digit(*byte);
+        line[2 * i + 1] = low_digit(*byte);
     }
     line
 }

@@ -9,7 +9,6 @@ ghost use Rattle.soundness.specs.System.{Claim};
 ghost use Rattle.vdlib.specs.Tested.{tested_of};
 
 use report::Verdict;
-use verdicts::Single;
 
 // `number` is 0 if the condition is tested, and `holds` tells whether it holds at the state; else it is the refusal's, with its place.
 #[repr(C)]
@@ -32,25 +31,20 @@ pub extern "C" fn vd_check(file: &[u8], report: &mut [u8]) -> Verdict
 }
 
 // The single test, for C and Rust (C12.8, C13.4).
+#[tactic(auto, unfolding(crate::specs::Tested::tested_of))]
 #[unsafe(no_mangle)]
 pub extern "C" fn vd_single(file: &[u8], condition: usize, state: usize) -> Tested
     ensures { result ≡ tested_of (single_of file.now condition state) }
 {
-    let found = judging::single(file, condition, state);
-    match found {
-        Single::Refused(number, place) => Tested {
-            number: number as usize,
-            place,
-            holds: false,
-        },
-        Single::Holds => Tested {
+    match judging::single(file, condition, state) {
+        Ok(holds) => Tested {
             number: 0,
             place: 0,
-            holds: true,
+            holds,
         },
-        Single::Fails => Tested {
-            number: 0,
-            place: 0,
+        Err(refusal) => Tested {
+            number: usize::from(refusal.number()),
+            place: refusal.place(),
             holds: false,
         },
     }

@@ -1,7 +1,8 @@
 -- The verdict on a file, and the single test.
-use Rattle.std.specs.Prelude.{Bool, cond, List, ℕ, ◌+◌, ◌*◌, replicate, ltb, leb, ℤ, pos}
+use Rattle.std.specs.Prelude.{Bool, cond, List, ℕ, ◌+◌, ◌*◌, replicate, ltb, leb, ℤ, pos, Result, Ok, Err}
 use Rattle.diagrams.specs.declared.Diagram.{Diagram}
-use Rattle.shapes.specs.Reading.{and_found}
+use Rattle.shapes.specs.declared.Refusal.{Refusal}
+use Rattle.shapes.specs.Refusal.{refused_number, refused_place, and_found, and_then}
 use Rattle.diagrams.specs.Diagram.{found_of, diagram_of, state_at}
 use Rattle.diagrams.specs.Start.{and_start}
 use Rattle.truths.specs.Search.{first_failing}
@@ -9,7 +10,6 @@ use Rattle.conditions.specs.Condition.{total_of, condition_at, refusal_number, n
 use Rattle.testing.specs.Holding.{condition_holds}
 use Rattle.conditions.specs.declared.Condition.{Condition}
 use Rattle.report.specs.declared.Verdict.{Verdict}
-use Rattle.verdicts.specs.declared.Single.{Single}
 
 -- ---- verdicts
 -- C12.6: no condition is named
@@ -50,8 +50,8 @@ judged_of file g =
     (unnamed_of 0 (total_of file g) (tests_of file g))
 
 -- C12.6, C12.7: a refusal without a condition costs no tests; its place is `at`
-abbrev pub refused_of : ℕ → ℕ → Verdict
-refused_of number place = unnamed_of number place 0
+abbrev pub refused_of : Refusal → Verdict
+refused_of r = unnamed_of (refused_number r) (refused_place r) 0
 
 -- C11.1: the refusals of reading come first, then 20, then the conditions
 unfoldable pub verdict_of : List ℕ → Verdict
@@ -59,17 +59,21 @@ verdict_of file = and_found refused_of (found_of file) λ o. let g = diagram_of 
 
 -- C12.1, C10.1, C11.1: the check of a file, with a report buffer of `room` bytes
 unfoldable pub check_of : List ℕ → ℕ → Verdict
-check_of file room = cond (ltb room 32) (refused_of 1 0) (verdict_of file)
+check_of file room = cond (ltb room 32) (refused_of Refusal.Buffer) (verdict_of file)
 
 -- ---- the single test
+-- C13.1: whether the condition holds at the state, or the refusal that meets the test
+abbrev pub Single : Type 0
+Single = Result Bool Refusal
+
 -- C10.11, C10.12, C13.3: of a readable file
 unfoldable pub single_judged : List ℕ → Diagram → ℕ → ℕ → Single
 single_judged file g condition state =
-    cond (leb (total_of file g) condition) (Single.Refused 11 0)
-    (cond (leb g.states state) (Single.Refused 12 0)
-    (cond (condition_holds file g (condition_at file g condition) (state_at g state)) Single.Holds Single.Fails))
+    cond (leb (total_of file g) condition) (Err Refusal.ConditionNumber)
+    (cond (leb g.states state) (Err Refusal.StateNumber)
+    (Ok (condition_holds file g (condition_at file g condition) (state_at g state))))
 
 -- C13.1, C13.2: the refusals of reading and 20 come before both
 unfoldable pub single_of : List ℕ → ℕ → ℕ → Single
 single_of file condition state =
-    and_found Single.Refused (found_of file) λ o. let g = diagram_of file o in and_start Single.Refused file g (single_judged file g condition state)
+    and_then (found_of file) λ o. let g = diagram_of file o in and_start Err file g (single_judged file g condition state)

@@ -1,13 +1,13 @@
 // The verdict on a file: the lowest broken condition with the lowest state that breaks it; and what a single test answers.
 #![tactic(auto)]
 
-ghost use Rattle.std.specs.Prelude.{◌≡◌, ◌≤◌};
+ghost use Rattle.std.specs.Prelude.{◌≡◌, ◌≤◌, ◌<◌, ◌^◌, Err};
+ghost use Rattle.shapes.specs.Refusal.{refused_place};
 ghost use Rattle.diagrams.specs.Diagram.{Loaded};
 ghost use Rattle.conditions.specs.Condition.{node_number, transition_number};
 ghost use Rattle.expressions.specs.Spans.{Spans};
 ghost use Rattle.diagrams.specs.Start.{and_start};
 ghost use Rattle.verdicts.specs.Verdict.{unnamed_of, named_of, judged_of, refused_of, verdict_of, single_judged, single_of};
-ghost use Rattle.verdicts.specs.declared.Single.{Single};
 
 use boxes::Box;
 use conditions::{Condition, condition_at, node_number, refusal_number, total, transition_number};
@@ -18,18 +18,10 @@ use report::Verdict;
 use searching::Search;
 use searching::scan::{Scan, first_ask, onward};
 use searching::start::starts;
-use shapes::Reading;
+use shapes::Refusal;
 use states::{advance, state_of};
 use testing::test_of;
 use testing::tests::{concludes, passes};
-
-// What a single test answers: the refusal that meets it, with its number and its place; or whether the condition holds at the state.
-#[derive(Clone, Copy)]
-pub enum Single {
-    Refused(u8, usize),
-    Holds,
-    Fails,
-}
 
 // A verdict that names no condition.
 pub fn unnamed(number: u8, at: u32, tests: u64) -> Verdict
@@ -43,6 +35,14 @@ pub fn unnamed(number: u8, at: u32, tests: u64) -> Verdict
         values: [0; 12],
         tests,
     }
+}
+
+// The verdict on a file that is refused before its conditions are tested.
+pub fn refused(refusal: Refusal) -> Verdict
+    requires { refused_place refusal < 2 ^ 32 }
+    ensures { result ≡ refused_of refusal }
+{
+    unnamed(refusal.number(), refusal.place() as u32, 0)
 }
 
 // The verdict that names a broken condition, its number, and the state that breaks it.
@@ -75,6 +75,7 @@ fn first_break(file: &[u8], diagram: Diagram, spans: &[u16; 4096], by_boxes: boo
     let mut number: usize = 0;
     let mut state = low;
     let mut n: usize = 0;
+    // Labelled loops, left at the first break (DECISIONS, forms): the number at which they are left is needed, and boxes skip states.
     'conditions: while number < total {
         let condition = condition_at(file, diagram, number);
         let test = test_of(file, diagram, condition);
@@ -129,19 +130,19 @@ fn judge(file: &[u8], diagram: Diagram, by_boxes: bool) -> Verdict
 {
     let spans = spans_of(file);
     if !starts(file, diagram, &spans, by_boxes) {
-        return unnamed(20, 0, 0);
+        return refused(Refusal::NoStart);
     }
     first_break(file, diagram, &spans, by_boxes)
 }
 
 // The verdict on a file, the same with boxes and by the loops alone.
+#[tactic(auto, unfolding(crate::specs::Verdict::verdict_of))]
 pub fn verdict(file: &[u8], by_boxes: bool) -> Verdict
     ensures { result ≡ verdict_of file.now }
 {
-    let found = find(file);
-    match found {
-        Reading::Found(outline) => judge(file, diagram_of(file, outline), by_boxes),
-        Reading::Refused(number, place) => unnamed(number, place as u32, 0),
+    match find(file) {
+        Ok(outline) => judge(file, diagram_of(file, outline), by_boxes),
+        Err(refusal) => refused(refusal),
     }
 }
 
@@ -152,47 +153,46 @@ fn tested(
     spans: &[u16; 4096],
     condition: usize,
     state: usize,
-) -> Single
+) -> Result<bool, Refusal>
     requires loaded { Loaded file.now diagram }
     requires spans { Spans file.now spans.now }
     ensures { result ≡ single_judged file.now diagram condition state }
 {
     if total(file, diagram) <= condition {
-        return Single::Refused(11, 0);
+        return Err(Refusal::ConditionNumber);
     }
     if diagram.states <= state {
-        return Single::Refused(12, 0);
+        return Err(Refusal::StateNumber);
     }
     let low = diagram.low;
     let high = diagram.high;
     let test = test_of(file, diagram, condition_at(file, diagram, condition));
     let s = state_of(low, high, state);
-    if passes(file, spans, low, high, test, s) {
-        Single::Holds
-    } else {
-        Single::Fails
-    }
+    Ok(passes(file, spans, low, high, test, s))
 }
 
 // The single test of a file that reading finds the parts of.
-fn try_single(file: &[u8], diagram: Diagram, condition: usize, state: usize) -> Single
+fn try_single(
+    file: &[u8],
+    diagram: Diagram,
+    condition: usize,
+    state: usize,
+) -> Result<bool, Refusal>
     requires { Loaded file.now diagram }
-    ensures { result ≡ and_start Single.Refused file.now diagram (single_judged file.now diagram condition state) }
+    ensures { result ≡ and_start Err file.now diagram (single_judged file.now diagram condition state) }
 {
     let spans = spans_of(file);
     if !starts(file, diagram, &spans, true) {
-        return Single::Refused(20, 0);
+        return Err(Refusal::NoStart);
     }
     tested(file, diagram, &spans, condition, state)
 }
 
-// The answer of the single test of a condition at a state, by their numbers.
-pub fn answer(file: &[u8], condition: usize, state: usize) -> Single
+// The single test of a condition at a state, by their numbers: whether it holds there.
+#[tactic(auto, unfolding(crate::specs::Verdict::single_of))]
+pub fn answer(file: &[u8], condition: usize, state: usize) -> Result<bool, Refusal>
     ensures { result ≡ single_of file.now condition state }
 {
-    let found = find(file);
-    match found {
-        Reading::Found(outline) => try_single(file, diagram_of(file, outline), condition, state),
-        Reading::Refused(number, place) => Single::Refused(number, place),
-    }
+    let outline = find(file)?;
+    try_single(file, diagram_of(file, outline), condition, state)
 }

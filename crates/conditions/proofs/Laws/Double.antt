@@ -1,6 +1,6 @@
 -- Laws of the edges that carry a transition from a node, and of the double transition of a node.
 --     carries_parts               an edge carries a transition from a node exactly if it leads from that node and is one of that transition
---     carries_not, carries_rest   the same, by the node first
+--     carries_is                  by tests
 --     double_edge_lem, edge_double    a transition leaves a node by double edges exactly if there is such an edge
 --     double_is                   it is then the node's double transition
 --     double_some, double_none    where edges may be double each node that edges lead from has one; else no node has
@@ -34,14 +34,9 @@ carries_parts n t e =
     let both = and-eq-true_iff (eqb e.from n) (eqb e.transition t) in
     (λ c. (eqb-true _ _ (both.0 c).0, eqb-true _ _ (both.0 c).1), λ p. both.1 (eq-eqb _ _ p.0, eq-eqb _ _ p.1))
 
--- by the node first
-pub carries_not : (n t : ℕ) (e : Edge) → (e.from ≡ n → ⊥) → carries n t e ≡ false
+pub carries_is : (n t : ℕ) (e : Edge) → carries n t e ≡ (eqb e.from n && eqb e.transition t)
 unfolding carries
-carries_not n t e f = rw (ne_eqb e.from n f)
-
-pub carries_rest : (n t : ℕ) (e : Edge) → e.from ≡ n → carries n t e ≡ eqb e.transition t
-unfolding carries
-carries_rest n t e f = rw (eq-eqb e.from n f)
+carries_is n t e = refl
 
 module _ (file : List ℕ) (g : Diagram) where
   -- edge e is a double edge of transition t from node n

@@ -3,7 +3,6 @@ use mathlib.Core.Path.{◌≡◌, sym, ap, ◌∙◌}
 use mathlib.Core.Bool.{true, false, not}
 use mathlib.Core.List.{List}
 use Prim.Native.Nat.{ℕ, ◌+◌, ◌*◌, ◌-◌, ◌≤◌, ◌<◌}
-use native.Mathlib.Decide.{dec_lt}
 use native.Mathlib.Omega.{arith}
 use borrow.Author.Tests.{lt-ltb, le-ltb}
 use Rattle.shapes.specs.declared.Edge.{Edge}
@@ -26,9 +25,6 @@ module _ (file : List ℕ) (g : Diagram) (node : ℕ) where
     pub most : e ≤ g.edges
     pub none : (k : ℕ) → k < e → double_from node (edge_of file g k) ≡ false
 
-  pub passed_begin : NotDoubled 0
-  passed_begin = record { most = omega arith; none = λ k l. absurd (omega arith) }
-
   module _ {e : ℕ} (p : NotDoubled e) where
     passed_found : (e < g.edges → double_from node (edge_of file g e) ≡ true) → double_edge file g node ≡ e
     unfolding double_edge
@@ -38,18 +34,11 @@ module _ (file : List ℕ) (g : Diagram) (node : ℕ) where
     unfolding double_of
     passed_end l = rw (passed_found (λ m. absurd (omega arith)), le-ltb e g.edges l)
 
-    -- the next edge
-    module _ (l : e < g.edges) {edge : Edge} (is : edge ≡ edge_of file g e) where
-      pub passed_more : double_from node edge ≡ false → NotDoubled (e + 1)
-      passed_more f = record { most = omega arith; none = λ k m. go k m (dec_lt k e) }
-        where
-          go : (k : ℕ) → k < e + 1 → Dec (k < e) → double_from node (edge_of file g k) ≡ false
-          go k m (yes q) = p.none k q
-          go k m (no q) = let z : k ≡ e = omega arith in rw (z, ← is) f
-
-      pub passed_here : double_from node edge ≡ true → edge.transition ≡ double_of file g node
-      unfolding double_of
-      passed_here d = rw (passed_found (λ m. rw (← is) d), lt-ltb e g.edges l) (ap (λ (x : Edge). x.transition) is)
+    -- the next edge is one
+    pub passed_here : e < g.edges → {edge : Edge} → edge ≡ edge_of file g e → double_from node edge ≡ true
+        → edge.transition ≡ double_of file g node
+    unfolding double_of
+    passed_here l is d = rw (passed_found (λ m. rw (← is) d), lt-ltb e g.edges l) (ap (λ (x : Edge). x.transition) is)
 
 pub double_few : (file : List ℕ) (g : Diagram) → Loaded file g → (n : ℕ) {d : ℕ} → d ≡ double_of file g n → d ≤ 32
 double_few file g r n is = rw is (omega (arith, double_most file g r n, (promised file g r).transitions))

@@ -15,17 +15,19 @@ use native.Mathlib.Omega.{arith}
 use lib.ListN.{length, get_or}
 use lib.Dec.{eqb}
 use lib.IntN.{ℤ}
+use Rattle.std.specs.declared.result.Result.TheVariants.{Ok, Err}
 use Rattle.records.specs.Kind.{truth as truth_sort}
 use Rattle.records.specs.Place.{place_of, places_of}
 use Rattle.truths.proofs.Laws.Table.{table_at}
 use Rattle.sections.specs.Section.{claim_at, property_at, phases_or, expressions_of, node_of}
 use Rattle.sections.proofs.Laws.Property.{property_nodes, phases_counted, expressions_are}
 use Rattle.shapes.specs.declared.Outline.{Outline}
+use Rattle.shapes.specs.declared.Refusal.{Refusal}
+use Rattle.shapes.specs.Refusal.{refused_number, refused_place}
 use Rattle.intervals.proofs.Laws.Expression.{expression_within}
 use Rattle.states.specs.Number.{state_of}
 use Rattle.states.proofs.Laws.Number.{number_below, state_of_number, number_of_state, state_within}
 use Rattle.ranges.proofs.Laws.Range.{ends_length, states_idle}
-use Rattle.shapes.specs.declared.Reading.{Reading}
 use Rattle.reading.specs.Read.{read_of}
 use Rattle.records.specs.Record.{field_a}
 use Rattle.reading.specs.Edge.{just_of as found_just}
@@ -39,20 +41,20 @@ use Rattle.diagrams.specs.Truth.{claimed_at, q_number, q_at}
 use Rattle.diagrams.specs.System.{step_at, just_of}
 use Rattle.diagrams.specs.Promise.{EdgeRight, DoubleTransition, TruthRight, Promise}
 
-pub found_read : (file : List ℕ) (o : Outline) → found_of file ≡ Reading.Found o → read_of file ≡ Reading.Found o
+pub found_read : (file : List ℕ) (o : Outline) → found_of file ≡ Ok o → read_of file ≡ Ok o
 unfolding found_of
 found_read file o e = e
 
 -- a refusal of reading: a number of 2 or more, and a place of 4,096 at most
-pub find_refuses : (file : List ℕ) (number place : ℕ) → found_of file ≡ Reading.Refused number place → (2 ≤ number) × (place ≤ 4096)
+pub find_refuses : (file : List ℕ) (refusal : Refusal) → found_of file ≡ Err refusal → (2 ≤ refused_number refusal) × (refused_place refusal ≤ 4096)
 unfolding found_of
-find_refuses file number place e = let r = read_refuses file number place e in (r.from, r.within)
+find_refuses file refusal e = let r = read_refuses file refusal e in (r.from, r.within)
 
-pub diagram_loaded : (file : List ℕ) (o : Outline) → found_of file ≡ Reading.Found o → Loaded file (diagram_of file o)
+pub diagram_loaded : (file : List ℕ) (o : Outline) → found_of file ≡ Ok o → Loaded file (diagram_of file o)
 diagram_loaded file o e = record { outline = o; found = e; is = refl }
 
 -- ---- of the parts that reading found
-module _ (file : List ℕ) (o : Outline) (r : read_of file ≡ Reading.Found o) where
+module _ (file : List ℕ) (o : Outline) (r : read_of file ≡ Ok o) where
   abbrev of : Diagram
   of = diagram_of file o
 
@@ -182,12 +184,7 @@ module _ (file : List ℕ) (o : Outline) (r : read_of file ≡ Reading.Found o) 
       }
 
 pub loaded_once : (file : List ℕ) (g h : Diagram) → Loaded file g → Loaded file h → g ≡ h
-loaded_once file g h a b =
-    let same : a.outline ≡ b.outline = outline_is a.outline b.outline (sym a.found ∙ b.found) in
-    a.is ∙ ap (diagram_of file) same ∙ sym b.is
-  where
-    outline_is : (x y : Outline) → Reading.Found x ≡ Reading.Found y → x ≡ y
-    outline_is x y e = cc
+loaded_once file g h a b = let same : a.outline ≡ b.outline = cc (a.found, b.found) in a.is ∙ ap (diagram_of file) same ∙ sym b.is
 
 pub promised : (file : List ℕ) (g : Diagram) → Loaded file g → Promise file g
 promised file g r = subst (Promise file) (sym r.is) (promise file r.outline (found_read file r.outline r.found))

@@ -10,6 +10,7 @@ use mathlib.Core.List.{List}
 use Prim.Native.Nat.{ℕ}
 use native.Mathlib.Nat.{zero-add}
 use lib.IntN.{ℤ}
+use Rattle.shapes.specs.declared.Refusal.{Refusal}
 use Rattle.truths.specs.Search.{any}
 use Rattle.truths.proofs.Laws.Any.{any_below, any_some}
 use Rattle.diagrams.specs.declared.Diagram.{Diagram}
@@ -52,11 +53,11 @@ module _ (file : List ℕ) (g : Diagram) where
   pub starting_readable : Loaded file g → Starting file g → Readable file g
   starting_readable r s = record { loaded = r; starts = some_starts file g r s }
 
-module _ {A : Type 0} (refused : ℕ → ℕ → A) (file : List ℕ) (g : Diagram) (next : A) where
+module _ {A : Type 0} (refused : Refusal → A) (file : List ℕ) (g : Diagram) (next : A) where
   pub start_follows : starts_of file g ≡ true → and_start refused file g next ≡ next
   unfolding and_start
   start_follows e = rw e
 
-  pub start_refused : starts_of file g ≡ false → and_start refused file g next ≡ refused 20 0
+  pub start_refused : starts_of file g ≡ false → and_start refused file g next ≡ refused Refusal.NoStart
   unfolding and_start
   start_refused e = rw e

@@ -14,6 +14,7 @@ use Prim.Native.Nat.{ℕ, ◌<◌}
 use lib.IntN.{ℤ, pos}
 use lib.ListN.{length, get_or}
 use lib.Signed.{◌≤ℤ◌}
+use Rattle.std.specs.declared.result.Result.TheVariants.{Ok}
 use Rattle.truths.specs.Listed.{Member}
 use Rattle.truths.proofs.Laws.Truth.{by-test}
 use Rattle.states.specs.State.{Within}
@@ -24,7 +25,6 @@ use Rattle.evaluating.specs.Transition.{update_list, all_in_range}
 use Rattle.evaluating.specs.Step.{guard_of, enabled_of, lowest_of, highest_of, successors_of}
 use Rattle.evaluating.specs.Fits.{TransitionFits}
 use Rattle.shapes.specs.declared.Outline.{Outline}
-use Rattle.shapes.specs.declared.Reading.{Reading}
 use Rattle.reading.specs.Read.{read_of}
 use Rattle.reading.proofs.Laws.Readable as readable
 use Rattle.evaluating.proofs.Laws.Transition.{SetIn, Unset}
@@ -93,12 +93,12 @@ module _ (file : List ℕ) (g : Diagram) (r : Loaded file g) (t : ℕ) (l : t < 
       (λ e. rw (successors_none g.low g.high file (step_at g t) state e) tt))
 
 -- what is so of each diagram that reading finds is so of g
-by_outline : {file : List ℕ} {g : Diagram} (P : Diagram → Type 0) → Loaded file g → ((o : Outline) → read_of file ≡ Reading.Found o → P (diagram_of file o)) → P g
+by_outline : {file : List ℕ} {g : Diagram} (P : Diagram → Type 0) → Loaded file g → ((o : Outline) → read_of file ≡ Ok o → P (diagram_of file o)) → P g
 by_outline {file} P r f = subst P (sym r.is) (f r.outline (found_read file r.outline r.found))
 
 module _ (file : List ℕ) (g : Diagram) (r : Loaded file g) where
   -- what lies between the ends is the successors
-  between : (o : Outline) (q : read_of file ≡ Reading.Found o) (t : ℕ) (l : t < o.transitions) (state : List ℤ) (s : State (diagram_of file o) state)
+  between : (o : Outline) (q : read_of file ≡ Ok o) (t : ℕ) (l : t < o.transitions) (state : List ℤ) (s : State (diagram_of file o) state)
       (next : List ℤ) → Member next (next_states file (diagram_of file o) t state)
       → Within (lowest_of file (readable.transition file o q t l).place state) (highest_of file (readable.transition file o q t l).place state) next
   unfolding diagram_of

@@ -6,9 +6,9 @@ use Prim.Native.Nat.{ℕ, ◌+◌, ◌*◌, ◌/◌, ◌<◌, ◌≤◌}
 use native.Mathlib.Omega.{arith}
 use lib.ListN.{length, get_or, set, replicate}
 use lib.IntN.{ℤ}
+use Rattle.std.specs.declared.result.Result.TheVariants.{Ok}
 use Rattle.shapes.specs.declared.Outline.{Outline}
 use Rattle.shapes.specs.declared.Property.{Property}
-use Rattle.records.specs.declared.walk.Walked.{Walked}
 use Rattle.records.proofs.Laws.Walk.{sequence_none}
 use Rattle.records.specs.Place.{places_of}
 use Rattle.truths.proofs.Laws.Table.{table_none, table_more}
@@ -17,7 +17,6 @@ use Rattle.records.proofs.Laws.Record.{kind_is_lem}
 use Rattle.states.specs.Ranges.{Ranges}
 use Rattle.ranges.specs.Range.{lows_of, highs_of}
 use Rattle.states.specs.Number.{count_of}
-use Rattle.shapes.specs.declared.Reading.{Reading}
 use Rattle.reading.specs.Read.{read_of}
 use Rattle.reading.proofs.Laws.Readable as readable
 use Rattle.evaluating.proofs.Laws.Readable as evaluable
@@ -37,8 +36,8 @@ unfolding assertions_of
 assertions_more nodes n is l = rw is (table_more 32 0 (λ i. get_or nodes i 0 + 1) n l)
 
 -- ---- what is asked
-module _ (file : List ℕ) (o : Outline) (e : found_of file ≡ Reading.Found o) where
-  abbrev r : read_of file ≡ Reading.Found o
+module _ (file : List ℕ) (o : Outline) (e : found_of file ≡ Ok o) where
+  abbrev r : read_of file ≡ Ok o
   r = found_read file o e
 
   pub vars_few : o.vars ≤ 12
@@ -51,11 +50,8 @@ module _ (file : List ℕ) (o : Outline) (e : found_of file ≡ Reading.Found o)
   nodes_ask =
       let n = readable.nodes_within file o r in
       let x = readable.node file o r 0 (omega arith) in
-      let e = same o.node x.place (sym (sequence_none (node_of file o.vars (property_at file o.property).ranks) o.node) ∙ x.reached) in
+      let e : o.node ≡ x.place = cc (sequence_none (node_of file o.vars (property_at file o.property).ranks) o.node, x.reached) in
       (n.1, omega (arith, (kind_is_lem file 0x06 x.place x.named).0))
-    where
-      same : (a b : ℕ) → Walked.End a ≡ Walked.End b → a ≡ b
-      same a b e = cc
 
   pub assertions_ask : {row : Property} {nodes : List ℕ} → row ≡ property_at file o.property
       → nodes ≡ places_of (node_of file o.vars row.ranks) o.nodes o.node

@@ -1,11 +1,7 @@
 -- `diagrams::assertions` meets its contract: the first i entries are set, those beyond are zero.
 use mathlib.Core.Path.{◌≡◌}
-use Prim.Native.Nat.{◌-◌, ◌≤◌}
 use Rattle.diagrams.specs.Diagram.{assertions_of}
 use Rattle.diagrams.proofs.assertions.Given as goal
 
 abbrev pub invariant-loop-i : goal.invariant-loop-i
-invariant-loop-i l = (l.places ≡ assertions_of l.nodes l.i) × (l.i ≤ l.n)
-
-abbrev pub decreases-loop-i : goal.decreases-loop-i
-decreases-loop-i l = l.n - l.i
+invariant-loop-i l = l.places ≡ assertions_of l.nodes l.i

@@ -9,6 +9,7 @@ use lib.IntN.{pos}
 use Rattle.records.specs.Form.{Form}
 use Rattle.records.specs.Form.Form.{Constant, Variable, Arithmetic, Indicator, Division, Literal, Negation, Connective, Comparison}
 use Rattle.records.specs.Record.{kind_at, field_a, value_b}
+use Rattle.records.specs.declared.kinds.Sort.{Sort}
 use Rattle.records.specs.Form.{form_of, form_at}
 use Rattle.expressions.specs.Expression.{part_at}
 use Rattle.expressions.proofs.Laws.Expression.{first_is}
@@ -46,7 +47,7 @@ module _ {levels : ℕ} (level : levels ≡ suc (levels - 1)) (part : List ℕ) 
     unfolding truth_in_by
     negation_in is = rw (a, e, ← first_is part, truth_in_opens level part b is)
 
-module _ {levels i j : ℕ} {f : Form} {part table : List ℕ} {at : ℕ} {p : List ℕ} (b : Box) (t : Two levels i j f part table at p b.low) where
+module _ {levels : ℕ} {i j : Sort} {f : Form} {part table : List ℕ} {at : ℕ} {p : List ℕ} (b : Box) (t : Two levels i j f part table at p b.low) where
   module _ {q : List ℕ} (d : q ≡ part_at part (1 + get_or table (at + 1) 0)) where
     module _ {x y : Extent} (u : x ≡ number_in (levels - 1) p b) (v : y ≡ number_in (levels - 1) q b) where
       pub arithmetic_in : f ≡ Arithmetic → combine_in (kind_at part 0) x y ≡ number_in levels part b

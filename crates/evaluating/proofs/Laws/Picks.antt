@@ -12,9 +12,9 @@ use native.Mathlib.Omega.{arith}
 use lib.IntN.{ℤ, pos}
 use lib.ListN.{length, get_or, set}
 use lib.Seq.{get_or-set_other}
+use Rattle.std.specs.declared.result.Result.TheVariants.{Ok}
 use Rattle.truths.proofs.Laws.Truth.{by-test}
 use Rattle.shapes.specs.declared.Outline.{Outline}
-use Rattle.shapes.specs.declared.Reading.{Reading}
 use Rattle.states.specs.Number.{size_of, count_of}
 use Rattle.states.proofs.Laws.Number.{size_self, count_pos, count_self, count_set}
 use Rattle.states.proofs.Laws.Between.{between_length}
@@ -78,7 +78,7 @@ module _ {file : List ℕ} {vars : ℕ} (state : List ℤ) where
   found_sizes (Updates.more e l x rest apart) = ap₂ ◌*◌ (found_choices x) (found_sizes rest)
 
 -- ---- the successors
-module _ (file : List ℕ) (o : Outline) (r : read_of file ≡ Reading.Found o) (state : List ℤ) (s : State file o.vars state)
+module _ (file : List ℕ) (o : Outline) (r : read_of file ≡ Ok o) (state : List ℤ) (s : State file o.vars state)
     (t : ℕ) (l : t < o.transitions) where
   abbrev here : Transition file o t
   here = readable.transition file o r t l

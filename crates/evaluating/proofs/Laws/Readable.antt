@@ -19,15 +19,16 @@ use Prim.Native.Nat.{ℕ, zero, suc, ◌+◌, ◌/◌, ◌<◌, ◌≤◌}
 use native.Mathlib.Omega.{arith}
 use lib.IntN.{ℤ, pos}
 use lib.ListN.{length, get_or}
+use Rattle.std.specs.declared.result.Result.TheVariants.{Ok}
 use Rattle.integers.specs.declared.Interval.{Interval}
 use Rattle.integers.specs.Inside.{In}
 use Rattle.shapes.specs.declared.Outline.{Outline}
 use lib.Signed.{◌≤ℤ◌, ≤ℤ_refl}
 use Rattle.integers.proofs.Laws.Parts.{ints}
 use Rattle.records.specs.Record.{field_a, value_b, value_c}
+use Rattle.records.specs.declared.kinds.Sort.{Sort}
 use Rattle.records.specs.Kind.{number as number_sort, truth as truth_sort}
 use Rattle.sections.specs.Section.{expressions_of}
-use Rattle.shapes.specs.declared.Reading.{Reading}
 use Rattle.intervals.specs.Interval.{interval}
 use Rattle.reading.specs.Read.{read_of}
 use Rattle.intervals.specs.Expression.{Expression}
@@ -69,7 +70,7 @@ module _ (file : List ℕ) (vars end : ℕ) (state : List ℤ) (most : vars ≤ 
   updates_fit (suc n) at (Updates.more {mid = mid} e l x rest apart) =
       λ k. let f = found_is file vars end state x in (update_fits l x, rw (f.0, f.1) (updates_fit n mid rest))
 
-module _ (file : List ℕ) (o : Outline) (r : read_of file ≡ Reading.Found o) where
+module _ (file : List ℕ) (o : Outline) (r : read_of file ≡ Ok o) where
   most : o.vars ≤ 12
   most = (readable.variables_within file o r).1
 
@@ -102,7 +103,7 @@ module _ (file : List ℕ) (o : Outline) (r : read_of file ≡ Reading.Found o) 
         let w = within_at s v in
         record { above = rw (← (ends_at file o.vars 2 v (omega arith) l)) w.0; below = rw (← (ends_at file o.vars 4 v (omega arith) l)) w.1 }
 
-    fits : (want at end : ℕ) (i : Interval) → Expression file o.vars 16 want at end i → Fits 16 want (part_at file at) state
+    fits : (want : Sort) (at end : ℕ) (i : Interval) → Expression file o.vars 16 want at end i → Fits 16 want (part_at file at) state
     fits want at end i x = expression_fits file o.vars most state inside 16 want at end i x
 
     pub number : (number_of lows highs state < count_of lows highs) × (state_of lows highs (number_of lows highs state) ≡ state)

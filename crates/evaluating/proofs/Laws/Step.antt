@@ -7,17 +7,20 @@
 --     successor_member, member_successor       of an enabled transition that fits: a state between the ends is a successor, and each successor is one
 --     successor_enabled            a transition that has a successor is enabled
 --     successor_state              a successor is a state
---     step_guard, step_enabled     a step says whether the guard is true, and whether the transition is enabled
---     step_low, step_high          where it is, the ends between which its successors lie
+--     step_blocked, step_out, step_to     a step says whether the guard is true, and whether the transition is enabled
+--     step_unheld                   of a step out of range the guard is true and the transition is not enabled
+--     step_idle, step_held         where it has no ends, it is not enabled; where it is not out of range, it is enabled if its guard is true
+--     step_ends                    where it is, the ends between which its successors lie
 -- Assumes nothing.
-use mathlib.Core.Path.{◌≡◌, refl, sym, ap, subst, ◌∙◌}
-use mathlib.Core.Bool.{true, false, ◌&&◌, and-eq-true_iff}
+use mathlib.Core.Path.{◌≡◌, refl, sym, subst}
+use mathlib.Core.Bool.{Bool, true, false, cond, ◌&&◌, and-eq-true_iff}
 use mathlib.Core.List.{List, []}
 use Prim.Native.Nat.{ℕ, ◌+◌, ◌/◌}
 use lib.IntN.{ℤ}
 use lib.ListN.{length}
 use Rattle.truths.specs.Listed.{Member}
-use Rattle.truths.proofs.Laws.Truth.{by-test}
+use Rattle.truths.specs.Truth.{implies}
+use Rattle.truths.proofs.Laws.Truth.{by-test, implies_true, implies_false}
 use Rattle.states.specs.State.{Within}
 use Rattle.states.specs.Ranges.{Ranges}
 use Rattle.states.specs.Number.{states_between}
@@ -25,9 +28,11 @@ use Rattle.states.proofs.Laws.State.{ranges_same, within_ends}
 use Rattle.states.proofs.Laws.Between.{between_within, within_between}
 use Rattle.expressions.specs.Expression.{holds_of, behind}
 use Rattle.expressions.proofs.Laws.Expression.{holds_is}
+use Rattle.evaluating.specs.declared.Ends.{Ends}
 use Rattle.evaluating.specs.declared.Stepped.{Stepped}
+use Rattle.evaluating.specs.declared.Stepped.TheVariants.{Blocked, OutOfRange, To}
 use Rattle.evaluating.specs.Transition.{update_list, all_in_range, lowest, highest}
-use Rattle.evaluating.specs.Step.{guard_of, enabled_of, lowest_of, highest_of, successors_of, step_of}
+use Rattle.evaluating.specs.Step.{guard_of, enabled_of, lowest_of, highest_of, successors_of, ends, step_of}
 use Rattle.evaluating.specs.Fits.{TransitionFits}
 use Rattle.evaluating.proofs.Laws.Transition.{lowest_within, highest_within, between_ranges, list_from, list_ordered}
 
@@ -99,20 +104,51 @@ module _ (lows highs : List ℤ) (file : List ℕ) (at : ℕ) (state : List ℤ)
     successor_state next m = between_state (successor_enabled next m) w (member_successor next m)
 
 -- ---- the step
-module _ (lows highs : List ℤ) (file : List ℕ) (at : ℕ) (state : List ℤ) {s : Stepped} (is : s ≡ step_of lows highs file at state) where
-  pub step_guard : s.guard ≡ guard_of file at state
+module _ (lows highs : List ℤ) (file : List ℕ) (at : ℕ) (state : List ℤ) where
+  -- P of a step is so where it is of each answer, where the code gives it
+  step_by : (P : Stepped → Type 0) → (guard_of file at state ≡ false → P Blocked)
+      → (guard_of file at state ≡ true → all_in_range lows highs (update_list file at state) ≡ false → P OutOfRange)
+      → (enabled_of lows highs file at state ≡ true → P (To (ends (lowest_of file at state) (highest_of file at state))))
+      → P (step_of lows highs file at state)
   unfolding step_of
-  step_guard = ap (λ (r : Stepped). r.guard) is
+  step_by P off out on =
+      let g = guard_of file at state in
+      let r = all_in_range lows highs (update_list file at state) in
+      let t = To (ends (lowest_of file at state) (highest_of file at state)) in
+      by-test g (λ b. P (cond b (cond r t OutOfRange) Blocked))
+      (λ e. by-test r (λ b. P (cond b t OutOfRange)) (λ f. on (rw (enabled_and lows highs file at state) ((and-eq-true_iff g r).1 (e, f)))) (out e))
+      off
 
-  pub step_enabled : s.enabled ≡ enabled_of lows highs file at state
-  unfolding step_of
-  step_enabled = ap (λ (r : Stepped). r.enabled) is
+  -- the guard and whether it is enabled
+  abbrev Said : Bool → Bool → Type 0
+  Said g e = (guard_of file at state ≡ g) × (enabled_of lows highs file at state ≡ e)
 
-  module _ (e : s.enabled ≡ true) where
-    pub step_low : s.low ≡ lowest_of file at state
-    unfolding step_of
-    step_low = ap (λ (r : Stepped). r.low) is ∙ rw (← step_enabled, e)
+  pub step_blocked : Blocked ≡ step_of lows highs file at state → Said false false
+  unfolding enabled_of
+  step_blocked is = step_by (λ s. Blocked ≡ s → Said false false) (λ e d. (e, rw e)) (λ e f d. cc) (λ e d. cc) is
 
-    pub step_high : s.high ≡ highest_of file at state
-    unfolding step_of
-    step_high = ap (λ (r : Stepped). r.high) is ∙ rw (← step_enabled, e)
+  pub step_out : OutOfRange ≡ step_of lows highs file at state → Said true false
+  unfolding enabled_of
+  step_out is = step_by (λ s. OutOfRange ≡ s → Said true false) (λ e d. cc) (λ e f d. (e, rw (e, f))) (λ e d. cc) is
+
+  -- of one out of range
+  pub step_unheld : OutOfRange ≡ step_of lows highs file at state → implies (guard_of file at state) (enabled_of lows highs file at state) ≡ false
+  step_unheld is = rw ((step_out is).0, (step_out is).1) (implies_true false)
+
+  -- of any step without ends, and of any that is not out of range
+  module _ {s : Stepped} (is : s ≡ step_of lows highs file at state) where
+    pub step_idle : ((x : Ends) → s ≡ To x → ⊥) → enabled_of lows highs file at state ≡ false
+    unfolding enabled_of
+    step_idle h = step_by (λ r. s ≡ r → enabled_of lows highs file at state ≡ false) (λ e d. rw e) (λ e f d. rw (e, f)) (λ e d. absurd (h _ d)) is
+
+    pub step_held : (s ≡ OutOfRange → ⊥) → implies (guard_of file at state) (enabled_of lows highs file at state) ≡ true
+    step_held h =
+        step_by (λ r. s ≡ r → implies (guard_of file at state) (enabled_of lows highs file at state) ≡ true) (λ e d. rw e (implies_false _))
+        (λ e f d. absurd (h d)) (λ e d. rw ((enabled_both lows highs file at state e).0, e) (implies_true true)) is
+
+  module _ {x : Ends} (is : To x ≡ step_of lows highs file at state) where
+    pub step_to : Said true true
+    step_to = step_by (λ s. To x ≡ s → Said true true) (λ e d. cc) (λ e f d. cc) (λ e d. ((enabled_both lows highs file at state e).0, e)) is
+
+    pub step_ends : x ≡ ends (lowest_of file at state) (highest_of file at state)
+    step_ends = step_by (λ s. To x ≡ s → x ≡ ends (lowest_of file at state) (highest_of file at state)) (λ e d. cc) (λ e f d. cc) (λ e d. cc) is

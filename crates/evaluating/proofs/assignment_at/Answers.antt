@@ -29,7 +29,7 @@ slice_bounds-number_at-count c = omega (arith, fits_here c.args.file.now (c.args
 
 pub number_at-value-requires : goal.number_at-value-requires
 number_at-value-requires c =
-    let part = lent _ _ c.requires.spans number_sort (c.args.at + 1) _ c.requires.fits in
+    let part = lent _ _ c.requires.spans number_sort (c.args.at + 1) _ c.requires.fits (take_rest (8 * (c.args.at + 1)) c.args.file.now) in
     record { fits = part.0; room = part.1.0; spans = part.1.1 }
 
 pub offset_bounds-spans-from : goal.offset_bounds-spans-from
@@ -37,9 +37,6 @@ offset_bounds-spans-from c = omega (arith, fits_here c.args.file.now (c.args.at 
 
 pub bounds-spans-from : goal.bounds-spans-from
 bounds-spans-from c = omega (arith, entry _ _ c.requires.spans number_sort (c.args.at + 1) _ c.requires.fits)
-
-pub overflow_cast-result : goal.overflow_cast-result
-overflow_cast-result c = omega (arith, fits_here c.args.file.now (c.args.at + 1) 16 number_sort c.args.state c.requires.fits, behind_within _ _ c.requires.spans number_sort (c.args.at + 1) _ c.requires.fits)
 
 pub overflow_add-result : goal.overflow_add-result
 overflow_add-result c = omega (arith, fits_here c.args.file.now (c.args.at + 1) 16 number_sort c.args.state c.requires.fits, behind_within _ _ c.requires.spans number_sort (c.args.at + 1) _ c.requires.fits)
@@ -50,7 +47,7 @@ returns c =
     let x = c.number_at-value in
     rw (
       back w64 x.result x.type_inv,
-      c.byte_at-variable.ensures,
+      c.byte_at.ensures,
       x.ensures,
       take_rest (8 * (c.args.at + 1)) c.args.file.now,
     )

@@ -2,7 +2,6 @@
 use mathlib.Core.Path.{sym, ◌∙◌}
 use Prim.Native.Nat.{◌+◌, ◌*◌}
 use native.Mathlib.Omega.{arith}
-use borrow.Author.Tests.{not-true, not-false}
 use Rattle.records.specs.Kind.{truth as truth_sort}
 use Rattle.evaluating.specs.Step.{guard_of}
 use Rattle.expressions.proofs.Laws.Expression.{fits_here}
@@ -24,14 +23,14 @@ slice_bounds-truth_at-count c = omega (arith, fits_here c.args.file.now (c.args.
 
 pub truth_at-requires : goal.truth_at-requires
 truth_at-requires c =
-    let part = lent _ _ c.requires.spans truth_sort (c.args.at + 1) _ c.requires.fits.guard in
+    let part = lent _ _ c.requires.spans truth_sort (c.args.at + 1) _ c.requires.fits.guard (take_rest (8 * (c.args.at + 1)) c.args.file.now) in
     record { fits = part.0; room = part.1.0; spans = part.1.1 }
 
 pub returns-then-not-truth_at : goal.returns-then-not-truth_at
 unfolding guard_of
 returns-then-not-truth_at c =
     step_off _ _ _ _ _
-    ((rw (take_rest (8 * (c.args.at + 1)) c.args.file.now) at (sym c.truth_at.ensures)) ∙ not-true _ c.if-not-truth_at.true-raw)
+    ((rw (take_rest (8 * (c.args.at + 1)) c.args.file.now) at (sym c.truth_at.ensures)) ∙ c.if-not-truth_at.true)
 
 pub offset_bounds-spans-from : goal.offset_bounds-spans-from
 offset_bounds-spans-from c = omega (arith, fits_here c.args.file.now (c.args.at + 1) 16 truth_sort c.args.state c.requires.fits.guard)
@@ -39,19 +38,23 @@ offset_bounds-spans-from c = omega (arith, fits_here c.args.file.now (c.args.at 
 pub bounds-spans-from : goal.bounds-spans-from
 bounds-spans-from c = entry _ _ c.requires.spans truth_sort (c.args.at + 1) _ c.requires.fits.guard
 
-pub overflow_cast-spans : goal.overflow_cast-spans
-overflow_cast-spans c = omega (arith, fits_here c.args.file.now (c.args.at + 1) 16 truth_sort c.args.state c.requires.fits.guard, behind_within _ _ c.requires.spans truth_sort (c.args.at + 1) _ c.requires.fits.guard)
-
 pub overflow_add-from-2 : goal.overflow_add-from-2
 overflow_add-from-2 c = omega (arith, fits_here c.args.file.now (c.args.at + 1) 16 truth_sort c.args.state c.requires.fits.guard, behind_within _ _ c.requires.spans truth_sort (c.args.at + 1) _ c.requires.fits.guard)
 
-pub updates-found-requires : goal.updates-found-requires
-updates-found-requires c =
+pub updates-requires : goal.updates-requires
+updates-requires c =
     record { spans = c.requires.spans; fits = rw (behind_is _ _ c.requires.spans truth_sort (c.args.at + 1) _ c.requires.fits.guard) c.requires.fits.updates }
 
-pub returns : goal.returns
+pub returns-in-Some : goal.returns-in-Some
 unfolding guard_of
-returns c =
+returns-in-Some c =
     step_on _ _ _ _ _
-    ((rw (take_rest (8 * (c.args.at + 1)) c.args.file.now) at (sym c.truth_at.ensures)) ∙ not-false _ c.if-not-truth_at.false-raw)
-    (rw (behind_is _ _ c.requires.spans truth_sort (c.args.at + 1) _ c.requires.fits.guard) at c.updates-found.ensures)
+    ((rw (take_rest (8 * (c.args.at + 1)) c.args.file.now) at (sym c.truth_at.ensures)) ∙ c.if-not-truth_at.false)
+    (rw (behind_is _ _ c.requires.spans truth_sort (c.args.at + 1) _ c.requires.fits.guard) at c.in-Some.ensures)
+
+pub returns-in-None : goal.returns-in-None
+unfolding guard_of
+returns-in-None c =
+    step_on _ _ _ _ _
+    ((rw (take_rest (8 * (c.args.at + 1)) c.args.file.now) at (sym c.truth_at.ensures)) ∙ c.if-not-truth_at.false)
+    (rw (behind_is _ _ c.requires.spans truth_sort (c.args.at + 1) _ c.requires.fits.guard) at c.in-None.ensures)

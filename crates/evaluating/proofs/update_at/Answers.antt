@@ -15,6 +15,6 @@ returns-then-kind_is c = rw (if_taken c.kind_is.ensures c.if-kind_is.true) c.pic
 pub assignment_at-requires : goal.assignment_at-requires
 assignment_at-requires c = record { fits = c.requires.fits.value (if_left c.kind_is.ensures c.if-kind_is.false); spans = c.requires.spans }
 
-pub returns : goal.returns
+pub returns-else-kind_is : goal.returns-else-kind_is
 unfolding update_at
-returns c = rw (if_left c.kind_is.ensures c.if-kind_is.false) c.assignment_at.ensures
+returns-else-kind_is c = rw (if_left c.kind_is.ensures c.if-kind_is.false) c.assignment_at.ensures

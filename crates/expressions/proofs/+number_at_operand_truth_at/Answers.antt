@@ -35,8 +35,8 @@ number_at-constant-requires t c = (fits_record _ _ _ _ c.requires.fits).there
 pub number_at-bounds-part-1 : goal.number_at-bounds-part-1
 number_at-bounds-part-1 t c = omega (arith, (fits_record _ _ _ _ c.requires.fits).there)
 
-pub number_at-bounds-state-a : goal.number_at-bounds-state-a
-number_at-bounds-state-a t c = (fits_record _ _ _ _ c.requires.fits).variable (variable_form c.in-17.is)
+pub number_at-bounds-state-part : goal.number_at-bounds-state-part
+number_at-bounds-state-part t c = (fits_record _ _ _ _ c.requires.fits).variable (variable_form c.in-17.is)
 
 pub number_at-operand-x-requires : goal.number_at-operand-x-requires
 number_at-operand-x-requires t c =
@@ -148,12 +148,12 @@ number_at-returns-in-16 t c = rw (back w64 c.constant.result c.constant.type_inv
 
 pub number_at-returns-in-17 : goal.number_at-returns-in-17
 number_at-returns-in-17 t c =
-    rw (back w64 c.widen.result c.widen.type_inv, c.widen.ensures, back w16 (get_or c.args.state (field_a c.args.part.now 0) (pos 0)) (search rules))
+    rw (back w64 c.from.result c.from.type_inv, c.from.ensures, back w16 (get_or c.args.state (field_a c.args.part.now 0) (pos 0)) (search rules))
     (variable_is _ _ _ _ _ _ (c.requires.fits, (c.requires.room, c.requires.spans)) (variable_form c.in-17.is))
 
 pub number_at-returns-in-21 : goal.number_at-returns-in-21
 number_at-returns-in-21 t c =
-    rw (back w64 c.indicator.result c.indicator.type_inv, c.indicator.ensures)
+    rw (back w64 c.from-in-21.result c.from-in-21.type_inv, c.from-in-21.ensures)
     (indicator_is _ _ _ _ _ _ (c.requires.fits, (c.requires.room, c.requires.spans)) c.after-rest.ensures c.truth_at.ensures (indicator_form c.in-21.is))
 
 pub number_at-returns-in-24-to-25 : goal.number_at-returns-in-24-to-25
@@ -180,15 +180,15 @@ operand-constant-requires t c = (fits_record _ _ _ _ c.requires.fits).there
 pub operand-bounds-part-1 : goal.operand-bounds-part-1
 operand-bounds-part-1 t c = omega (arith, (fits_record _ _ _ _ c.requires.fits).there)
 
-pub operand-bounds-state-a : goal.operand-bounds-state-a
-operand-bounds-state-a t c = (fits_record _ _ _ _ c.requires.fits).variable (variable_form c.in-17.is)
+pub operand-bounds-state-part : goal.operand-bounds-state-part
+operand-bounds-state-part t c = (fits_record _ _ _ _ c.requires.fits).variable (variable_form c.in-17.is)
 
 pub operand-returns-in-16 : goal.operand-returns-in-16
 operand-returns-in-16 t c = rw (back w64 c.constant.result c.constant.type_inv, c.constant.ensures) (constant_is _ _ _ _ _ _ (c.requires.fits, (c.requires.room, c.requires.spans)) (constant_form c.in-16.is))
 
 pub operand-returns-in-17 : goal.operand-returns-in-17
 operand-returns-in-17 t c =
-    rw (back w64 c.widen.result c.widen.type_inv, c.widen.ensures, back w16 (get_or c.args.state (field_a c.args.part.now 0) (pos 0)) (search rules))
+    rw (back w64 c.from.result c.from.type_inv, c.from.ensures, back w16 (get_or c.args.state (field_a c.args.part.now 0) (pos 0)) (search rules))
     (variable_is _ _ _ _ _ _ (c.requires.fits, (c.requires.room, c.requires.spans)) (variable_form c.in-17.is))
 
 -- ---- `truth_at`

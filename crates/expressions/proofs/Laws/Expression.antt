@@ -24,10 +24,13 @@ use Rattle.integers.specs.Inside.{In}
 use Rattle.records.specs.Form.{Form}
 use Rattle.records.specs.Form.Form.{Constant, Variable, Arithmetic, Indicator, Division, Literal, Negation, Connective, Comparison}
 use Rattle.records.specs.Record.{kind_at, field_a, value_b}
-use Rattle.records.specs.Kind.{row, signature_of, signature_at, number as number_sort, divisor as divisor_sort}
+use Rattle.records.specs.declared.kinds.Sort.{Sort}
+use Rattle.records.specs.declared.kinds.Operands.{Operands}
+use Rattle.records.specs.declared.kinds.Operands.TheVariants.{Zero, One, Two}
+use Rattle.records.specs.Kind.{count, row, signature_of, signature_at, number as number_sort, divisor as divisor_sort}
 use Rattle.records.specs.Form.{form_at, row_of}
 use Rattle.records.specs.Walk.{spans, span}
-use Rattle.records.proofs.Laws.Kind.{operands_most, form_range, signature_by}
+use Rattle.records.proofs.Laws.Kind.{form_range, signature_by}
 use Rattle.records.proofs.Laws.Span.{spans_none, spans_one, spans_two, span_opens}
 use Rattle.intervals.specs.Interval.{combine, divide}
 use Rattle.expressions.specs.Expression.{part_at, first_operand, second_operand, indicator_of, connect_of, compare_of, number_by, truth_by, number, truth}
@@ -106,17 +109,17 @@ module _ {levels below : ℕ} (e : levels ≡ suc below) (part : List ℕ) (stat
       truth_opens ∙ rw (lt-leb k 0x21 (omega arith), ne_eqb k 0x22 (λ z. omega arith), lt-leb k 0x26 r.0)
 
   -- ---- operands that fit
-  pub fits_opens : {kind : ℕ} (is : kind_at part 0 ≡ kind) (want : ℕ) (h : Fits levels want part state)
-      → let s = signature_of kind in OperandsFit (λ sort p. Fits below sort p state) below part s.first s.second s.operands
+  pub fits_opens : {kind : ℕ} (is : kind_at part 0 ≡ kind) (want : Sort) (h : Fits levels want part state)
+      → OperandsFit (λ sort p. Fits below sort p state) below part (signature_of kind).operands
   unfolding Fits
   fits_opens is want h = (rw (e, is) at h).2
 
-  module _ {f : Form} (is : form_at part 0 ≡ f) (want : ℕ) (h : Fits levels want part state) {own a b : ℕ} where
-    pub fits_one : row_of f ≡ row own 1 a b → Fits below a (first_operand part) state
+  module _ {f : Form} (is : form_at part 0 ≡ f) (want : Sort) (h : Fits levels want part state) {own a : Sort} where
+    pub fits_one : row_of f ≡ row own (One a) → Fits below a (first_operand part) state
     unfolding OperandsFit
     fits_one r = rw (signature_by (kind_at part 0) is, r) at (fits_opens refl want h)
 
-    pub fits_two : row_of f ≡ row own 2 a b → Fits below a (first_operand part) state × Fits below b (second_operand below part) state
+    pub fits_two : {b : Sort} → row_of f ≡ row own (Two a b) → Fits below a (first_operand part) state × Fits below b (second_operand below part) state
     unfolding OperandsFit
     fits_two r = rw (signature_by (kind_at part 0) is, r) at (fits_opens refl want h)
 
@@ -125,12 +128,12 @@ unfolding holds_of
 holds_is file at state = refl
 
 -- ---- an expression that fits
-pub fits_level : (levels want : ℕ) (part : List ℕ) (state : List ℤ) → Fits levels want part state → levels ≡ suc (levels - 1)
+pub fits_level : (levels : ℕ) (want : Sort) (part : List ℕ) (state : List ℤ) → Fits levels want part state → levels ≡ suc (levels - 1)
 unfolding Fits
 fits_level zero want part state h = absurd h
 fits_level (suc levels) want part state h = omega arith
 
-pub fits_record : (levels want : ℕ) (part : List ℕ) (state : List ℤ) → Fits levels want part state → RecordFits want part
+pub fits_record : (levels : ℕ) (want : Sort) (part : List ℕ) (state : List ℤ) → Fits levels want part state → RecordFits want part
 unfolding Fits
 fits_record zero want part state h = absurd h
 fits_record (suc levels) want part state h = h.0
@@ -150,26 +153,25 @@ module _ (levels : ℕ) (part : List ℕ) (state : List ℤ) (h : Fits levels di
       number_constant (fits_level levels divisor_sort part state h) part state ((fits_record levels divisor_sort part state h).divisor refl).0
 
 -- ---- its records
-operands_within : (F : ℕ → List ℕ → Type 0) (below : ℕ) (part : List ℕ) (a b n : ℕ) → n ≤ 2 → 8 ≤ length part
-    → ((sort : ℕ) (p : List ℕ) → F sort p → 8 * span below p ≤ length p) → OperandsFit F below part a b n → 8 * spans (span below) n 1 part ≤ length part
+operands_within : (F : Sort → List ℕ → Type 0) (below : ℕ) (part : List ℕ) (operands : Operands) → 8 ≤ length part
+    → ((sort : Sort) (p : List ℕ) → F sort p → 8 * span below p ≤ length p) → OperandsFit F below part operands
+    → 8 * spans (span below) (count operands) 1 part ≤ length part
 unfolding OperandsFit first_operand second_operand
-operands_within F below part a b zero l there ih h = rw spans_none (omega arith)
-operands_within F below part a b (suc zero) l there ih h = rw spans_one (omega (arith, ih a (first_operand part) h, length-drop 8 part))
-operands_within F below part a b (suc (suc zero)) l there ih h =
+operands_within F below part Zero there ih h = rw spans_none (omega arith)
+operands_within F below part (One a) there ih h = rw spans_one (omega (arith, ih a (first_operand part) h, length-drop 8 part))
+operands_within F below part (Two a b) there ih h =
     let second = 8 * (1 + span below (first_operand part)) in
     rw spans_two
     (omega (arith, ih a (first_operand part) h.0, ih b (second_operand below part) h.1, length-drop 8 part, length-drop second part))
-operands_within F below part a b (suc (suc (suc n))) l there ih h = absurd (omega arith)
 
-pub fits_within : (levels want : ℕ) (part : List ℕ) (state : List ℤ) → Fits levels want part state → 8 * span levels part ≤ length part
+pub fits_within : (levels : ℕ) (want : Sort) (part : List ℕ) (state : List ℤ) → Fits levels want part state → 8 * span levels part ≤ length part
 unfolding Fits
 fits_within zero want part state h = absurd h
 fits_within (suc levels) want part state h =
-    let s = signature_at part 0 in
     rw (span_opens {below = levels} refl part refl)
-    (operands_within (λ sort p. Fits levels sort p state) levels part s.first s.second s.operands (operands_most (kind_at part 0)) h.0.there
+    (operands_within (λ sort p. Fits levels sort p state) levels part (signature_at part 0).operands h.0.there
     (λ sort p. fits_within levels sort p state) h.2)
 
 -- of an expression of a file
-pub fits_here : (file : List ℕ) (at levels want : ℕ) (state : List ℤ) → Fits levels want (part_at file at) state → 8 * at + 8 ≤ length file
+pub fits_here : (file : List ℕ) (at levels : ℕ) (want : Sort) (state : List ℤ) → Fits levels want (part_at file at) state → 8 * at + 8 ≤ length file
 fits_here file at levels want state h = let l = (fits_record levels want (part_at file at) state h).there in omega (arith, length-drop (8 * at) file)

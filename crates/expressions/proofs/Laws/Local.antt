@@ -7,12 +7,15 @@ use mathlib.Core.List.{List}
 use Prim.Native.Nat.{ℕ, zero, suc, ◌+◌}
 use native.Mathlib.Omega.{arith}
 use lib.IntN.{ℤ}
+use Rattle.std.specs.declared.option.Option.TheVariants.{Some}
+use Rattle.std.specs.declared.result.Result.TheVariants.{Ok}
 use Rattle.records.specs.Form.{Form}
 use Rattle.records.specs.Record.{kind_at}
+use Rattle.records.specs.declared.kinds.Sort.{Sort}
+use Rattle.records.specs.declared.kinds.Operands.TheVariants.{One, Two}
 use Rattle.records.specs.Kind.{row, sort_for, signature_at, number as number_sort, truth as truth_sort}
 use Rattle.records.specs.Form.{form_of, form_at, row_of}
 use Rattle.records.specs.Walk.{walk_of}
-use Rattle.records.specs.declared.walk.Walked.TheVariants.{End}
 use Rattle.records.proofs.Laws.Kind.{number_forms, truth_forms, signature_by}
 use Rattle.records.proofs.Laws.Walk.{walk_deepest}
 use Rattle.records.proofs.Laws.Span.{kind_part, form_part, walk_span}
@@ -23,7 +26,7 @@ use Rattle.expressions.proofs.Laws.Expression.{truth_literal, truth_negation, tr
 use Rattle.expressions.proofs.Laws.Sound.{variable_part, value_part, first_part, second_part}
 
 -- the second operand begins where the first ends
-second_at : (file : List ℕ) (vars levels want at k : ℕ) → walk_of file vars levels want (at + 1) ≡ End (at + 1 + k)
+second_at : (file : List ℕ) (vars levels : ℕ) (want : Sort) (at k : ℕ) → walk_of file vars levels want (at + 1) ≡ Ok (at + 1 + k)
     → second_operand levels (part_at file at) ≡ part_at file (at + (1 + k))
 second_at file vars levels want at k w =
     let s = walk_span file vars levels want (at + 1) (at + 1 + k) w in
@@ -31,13 +34,13 @@ second_at file vars levels want at k w =
 
 module _ (file file' : List ℕ) (vars : ℕ) (state : List ℤ) where
   -- two parts are worth the same, as numbers or as truths, by their sort
-  abbrev Alike : ℕ → ℕ → List ℕ → List ℕ → Type 0
+  abbrev Alike : ℕ → Sort → List ℕ → List ℕ → Type 0
   Alike levels want part part' =
       (sort_for want ≡ number_sort → number levels part state ≡ number levels part' state)
       × (sort_for want ≡ truth_sort → truth levels part state ≡ truth levels part' state)
 
-  module _ (levels want at at' n : ℕ) (o : CopiedRecord file file' vars levels want at at' n)
-      (operand : (want x x' k : ℕ) → Copy file file' vars levels want x x' k → Alike levels want (part_at file x) (part_at file' x')) where
+  module _ (levels : ℕ) (want : Sort) (at at' n : ℕ) (o : CopiedRecord file file' vars levels want at at' n)
+      (operand : (want : Sort) (x x' k : ℕ) → Copy file file' vars levels want x x' k → Alike levels want (part_at file x) (part_at file' x')) where
     abbrev part : List ℕ
     part = part_at file at
 
@@ -60,14 +63,14 @@ module _ (file file' : List ℕ) (vars : ℕ) (state : List ℤ) where
       form' : form_at part' 0 ≡ f
       form' = sym (ap form_of kind_alike) ∙ form
 
-      module _ {own a b : ℕ} where
-        one_alike : row_of f ≡ row own 1 a b → Alike levels a (first_operand part) (first_operand part')
-        one_alike r = rw (first_part file at, first_part file' at') (operand _ _ _ _ (rw (signature, r) at (o.one (rw (signature, r) refl))))
+      module _ {own a : Sort} where
+        one_alike : row_of f ≡ row own (One a) → Alike levels a (first_operand part) (first_operand part')
+        one_alike r = rw (first_part file at, first_part file' at') (operand _ _ _ _ (o.one {a = a} (rw (signature, r) refl)))
 
-        two_alike : row_of f ≡ row own 2 a b
+        two_alike : {b : Sort} → row_of f ≡ row own (Two a b)
             → Alike levels a (first_operand part) (first_operand part') × Alike levels b (second_operand levels part) (second_operand levels part')
-        two_alike r =
-            let t : TwoCopies file file' vars levels a b at at' n = rw (signature, r) at (o.two (rw (signature, r) refl)) in
+        two_alike {b} r =
+            let t : TwoCopies file file' vars levels a b at at' n = o.two {a = a} {b = b} (rw (signature, r) refl) in
             let s = second_at file vars levels _ at t.left t.first.walks in
             let s' = second_at file' vars levels _ at' t.left (walk_local file file' vars levels _ (at + 1) (at' + 1) t.left t.first) in
             (rw (first_part file at, first_part file' at') (operand _ _ _ _ t.first), rw (s, s') (operand _ _ _ _ t.second))
@@ -83,7 +86,7 @@ module _ (file file' : List ℕ) (vars : ℕ) (state : List ℤ) where
     abbrev Truths : Form → Type 0
     Truths f = form_at file at ≡ f → truth (suc levels) part state ≡ truth (suc levels) part' state
 
-    numbers_alike : (signature_at file at).sort ≡ number_sort → Numbers (form_at file at)
+    numbers_alike : (signature_at file at).sort ≡ Some number_sort → Numbers (form_at file at)
     numbers_alike =
         number_forms Numbers (kind_at file at)
         (λ is. both is (λ p. number_constant here p state) (value_part file at ∙ b_same file file' at at' o.byte ∙ sym (value_part file' at')))
@@ -92,7 +95,7 @@ module _ (file file' : List ℕ) (vars : ℕ) (state : List ℤ) where
         (λ is. both is (λ p. number_indicator here p state) (rw ((one_alike is refl).1 refl)))
         (λ is. let t = two_alike is refl in both is (λ p. number_division here p state) (rw (kind_alike, t.0.0 refl, t.1.0 refl)))
 
-    truths_alike : (signature_at file at).sort ≡ truth_sort → Truths (form_at file at)
+    truths_alike : (signature_at file at).sort ≡ Some truth_sort → Truths (form_at file at)
     truths_alike =
         truth_forms Truths (kind_at file at)
         (λ is. both is (λ p. truth_literal here p state) (rw kind_alike))
@@ -101,9 +104,9 @@ module _ (file file' : List ℕ) (vars : ℕ) (state : List ℤ) where
         (λ is. let t = two_alike is refl in both is (λ p. truth_comparison here p state) (rw (kind_alike, t.0.0 refl, t.1.0 refl)))
 
     opened_alike : Alike (suc levels) want part part'
-    opened_alike = (λ w. numbers_alike (o.sort ∙ w) refl, λ w. truths_alike (o.sort ∙ w) refl)
+    opened_alike = (λ w. numbers_alike (o.sort ∙ ap Some w) refl, λ w. truths_alike (o.sort ∙ ap Some w) refl)
 
-  worth_local : (levels want at at' n : ℕ) → Copy file file' vars levels want at at' n → Alike levels want (part_at file at) (part_at file' at')
+  worth_local : (levels : ℕ) (want : Sort) (at at' n : ℕ) → Copy file file' vars levels want at at' n → Alike levels want (part_at file at) (part_at file' at')
   worth_local zero want at at' n c = absurd (walk_deepest file vars want at (at + n) c.walks)
   worth_local (suc levels) want at at' n c =
       opened_alike levels want at at' n (copy_opens file file' vars levels want at at' n c) (worth_local levels)

@@ -15,6 +15,8 @@ use lib.IntN.{ℤ}
 use Rattle.records.specs.Form.{Form}
 use Rattle.records.specs.Form.Form.{Arithmetic, Division, Connective, Comparison}
 use Rattle.records.specs.Record.{kind_at}
+use Rattle.records.specs.declared.kinds.Sort.{Sort}
+use Rattle.records.specs.declared.kinds.Operands.{Operands}
 use Rattle.records.specs.Kind.{row, number as number_sort, truth as truth_sort, divisor as divisor_sort}
 use Rattle.records.specs.Form.{form_at, row_of}
 use Rattle.records.specs.Walk.{span}
@@ -35,11 +37,11 @@ module _ (levels : ℕ) (part : List ℕ) (state : List ℤ) where
   truth_kinds h = truth_range (kind_at part 0) (fits_record levels truth_sort part state h).sort
 
 -- ---- what the evaluators ask of the part of an operand, which begins at record `at` of the table's file
-abbrev pub Asked : ℕ → ℕ → List ℕ → List ℕ → ℕ → List ℤ → Type 0
+abbrev pub Asked : ℕ → Sort → List ℕ → List ℕ → ℕ → List ℤ → Type 0
 Asked levels want part table at state = Fits levels want part state × ((8 * at + length part ≤ 32768) × Spans part (drop at table))
 
 -- ---- a record with two operands, of sorts a and b. p is the part of the first, as the code has it
-pub record Two (levels a b : ℕ) (f : Form) (part table : List ℕ) (at : ℕ) (p : List ℕ) (state : List ℤ) : Type 0 where
+pub record Two (levels : ℕ) (a b : Sort) (f : Form) (part table : List ℕ) (at : ℕ) (p : List ℕ) (state : List ℤ) : Type 0 where
   pub is : form_at part 0 ≡ f
   pub level : levels ≡ suc (levels - 1)
   pub first : p ≡ first_operand part
@@ -51,24 +53,24 @@ pub record Two (levels a b : ℕ) (f : Form) (part table : List ℕ) (at : ℕ) 
   pub right : {q : List ℕ} → q ≡ part_at part (1 + get_or table (at + 1) 0)
       → Asked (levels - 1) b q table (at + (1 + get_or table (at + 1) 0)) state
 
-module _ (levels want : ℕ) (part table : List ℕ) (at : ℕ) (state : List ℤ) (h : Asked levels want part table at state) where
+module _ (levels : ℕ) (want : Sort) (part table : List ℕ) (at : ℕ) (state : List ℤ) (h : Asked levels want part table at state) where
   pub there : 8 ≤ length part
   there = (fits_record levels want part state h.0).there
 
   pub level : levels ≡ suc (levels - 1)
   level = fits_level levels want part state h.0
 
-  onward : (k : ℕ) {p : List ℕ} → p ≡ part_at part k → 8 * k ≤ length part → (below over : ℕ) → Fits below over p state
+  onward : (k : ℕ) {p : List ℕ} → p ≡ part_at part k → 8 * k ≤ length part → (below : ℕ) (over : Sort) → Fits below over p state
       → Asked below over p table (at + k) state
   onward k e l below over f =
       (f, (omega (arith, h.1.0, ap length e, length-drop (8 * k) part), rw e (spans_from_lem part table at k h.1.1)))
 
-  module _ {f : Form} (is : form_at part 0 ≡ f) {p : List ℕ} (e : p ≡ part_at part 1) {own a b : ℕ} where
-    pub one : row_of f ≡ row own 1 a b → Asked (levels - 1) a p table (at + 1) state
+  module _ {f : Form} (is : form_at part 0 ≡ f) {p : List ℕ} (e : p ≡ part_at part 1) {own a : Sort} where
+    pub one : row_of f ≡ row own (Operands.One a) → Asked (levels - 1) a p table (at + 1) state
     one r = onward 1 e there (levels - 1) a (rw (e, ← first_is part) (fits_one level part state is want h.0 r))
 
-    pub two : row_of f ≡ row own 2 a b → Two levels a b f part table at p state
-    two r =
+    pub two : {b : Sort} → row_of f ≡ row own (Operands.Two a b) → Two levels a b f part table at p state
+    two {b} r =
         let below = levels - 1 in
         let first : p ≡ first_operand part = e ∙ sym (first_is part) in
         let both = fits_two level part state is want h.0 r in

@@ -12,6 +12,7 @@ use lib.IntN.{ℤ}
 use lib.ListN.{length, get_or, take, drop, length-drop}
 use lib.Seq.{take_all}
 use Rattle.integers.specs.declared.Interval.{Interval}
+use Rattle.records.specs.declared.kinds.Sort.{Sort}
 use Rattle.intervals.specs.Expression.{Expression}
 use Rattle.intervals.proofs.Laws.Expression.{expression_span}
 use Rattle.expressions.specs.Expression.{part_at, behind}
@@ -25,13 +26,10 @@ pub take_rest : (k : ℕ) (part : List ℕ) → take (length part - k) (drop k p
 take_rest k part = take_all (length part - k) (drop k part) (omega (arith, length-drop k part))
 
 -- ---- the expression at a record of a file
-module _ (file table : List ℕ) (s : Spans file table) (want at : ℕ) (state : List ℤ) (h : Fits 16 want (part_at file at) state) where
+module _ (file table : List ℕ) (s : Spans file table) (want : Sort) (at : ℕ) (state : List ℤ) (h : Fits 16 want (part_at file at) state) where
   -- it may be handed on
-  pub lent : Fits 16 want (take (length file - 8 * at) (part_at file at)) state
-      × ((8 * at + length (take (length file - 8 * at) (part_at file at)) ≤ 32768)
-      × Spans (take (length file - 8 * at) (part_at file at)) (drop at table))
-  lent = rw (take_rest (8 * at) file)
-      (h, (omega (arith, s.enough, fits_here file at 16 want state h, length-drop (8 * at) file), spans_part file table at s))
+  pub lent : {part : List ℕ} → part ≡ part_at file at → Fits 16 want part state × ((8 * at + length part ≤ 32768) × Spans part (drop at table))
+  lent e = rw e (h, (omega (arith, s.enough, fits_here file at 16 want state h, length-drop (8 * at) file), spans_part file table at s))
 
   -- the table has an entry for it
   pub entry : at < 4096
@@ -48,6 +46,6 @@ module _ (file table : List ℕ) (s : Spans file table) (want at : ℕ) (state :
       omega (arith, s.right at 16 want state h, fits_here file at 16 want state h, length-drop (8 * at) file)
 
 -- ---- of a readable file
-pub behind_end : {file : List ℕ} {vars want at end : ℕ} {i : Interval} → Expression file vars 16 want at end i → behind file at ≡ end
+pub behind_end : {file : List ℕ} {vars : ℕ} {want : Sort} {at end : ℕ} {i : Interval} → Expression file vars 16 want at end i → behind file at ≡ end
 unfolding behind
 behind_end {file} {vars} {want} {at} {end} x = sym (expression_span file vars want at end x)

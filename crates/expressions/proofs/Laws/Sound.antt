@@ -12,6 +12,7 @@ use lib.IntN.{ℤ, pos}
 use lib.ListN.{length, get_or, length-drop}
 use lib.Seq.{get_or-drop, drop-drop}
 use lib.Signed.{≤ℤ_refl}
+use Rattle.std.specs.declared.option.Option.TheVariants.{Some}
 use Rattle.integers.specs.declared.Interval.{Interval}
 use Rattle.integers.specs.Inside.{In}
 use Rattle.truths.proofs.Laws.Truth.{by-test}
@@ -20,7 +21,10 @@ use Rattle.integers.proofs.Laws.Interval.{in_bounds_lem}
 use Rattle.records.specs.Form.{Form}
 use Rattle.records.specs.Form.Form.{Constant, Variable, Arithmetic, Indicator, Division}
 use Rattle.records.specs.Record.{kind_at, field_a, value_b, value_c}
-use Rattle.records.specs.Kind.{row, sort_for, signature_of, signature_at, number as number_sort, divisor as divisor_sort}
+use Rattle.records.specs.declared.kinds.Sort.{Sort}
+use Rattle.records.specs.declared.kinds.Operands.{Operands as SortOperands}
+use Rattle.records.specs.declared.kinds.Operands.TheVariants.{Two}
+use Rattle.records.specs.Kind.{count, row, sort_for, signature_of, signature_at, number as number_sort, divisor as divisor_sort}
 use Rattle.records.specs.Form.{form_at, row_of}
 use Rattle.records.specs.Walk.{span}
 use Rattle.records.proofs.Laws.Kind.{number_forms, signature_by}
@@ -74,20 +78,21 @@ constant_in x = record { above = ≤ℤ_refl x; below = ≤ℤ_refl x }
 module _ (file : List ℕ) (vars : ℕ) (most : vars ≤ 12) (state : List ℤ)
     (inside : (v : ℕ) → v < vars → In (get_or state v (pos 0)) (interval (value_b file v) (value_c file v))) where
   -- what is to be shown of an expression
-  record Sound (levels want at : ℕ) (i : Interval) : Type 0 where
+  record Sound (levels : ℕ) (want : Sort) (at : ℕ) (i : Interval) : Type 0 where
     fits : Fits levels want (part_at file at) state
     number_lies : sort_for want ≡ number_sort → In (number levels (part_at file at) state) i
 
-  module _ (levels at end : ℕ) (ih : (want at end : ℕ) (i : Interval) → Expression file vars levels want at end i → Sound levels want at i) where
-    second_at : {want mid : ℕ} {j : Interval} → Expression file vars levels want (at + 1) mid j → second_operand levels (part_at file at) ≡ part_at file mid
+  module _ (levels at end : ℕ) (ih : (want : Sort) (at end : ℕ) (i : Interval) → Expression file vars levels want at end i → Sound levels want at i) where
+    second_at : {want : Sort} {mid : ℕ} {j : Interval} → Expression file vars levels want (at + 1) mid j
+        → second_operand levels (part_at file at) ≡ part_at file mid
     second_at {want} {mid} {j} x = second_part file at levels mid (expression_span file vars want (at + 1) mid x)
 
     operands_fit : {i : Interval} → Operands file vars levels at end i
-        → let s = signature_at file at in OperandsFit (λ sort p. Fits levels sort p state) levels (part_at file at) s.first s.second s.operands
+        → OperandsFit (λ sort p. Fits levels sort p state) levels (part_at file at) (signature_at file at).operands
     unfolding OperandsFit
     operands_fit (Operands.none m e) = rw m tt
-    operands_fit (Operands.one {j} m x) = rw (m, first_part file at) (ih _ _ _ _ x).fits
-    operands_fit (Operands.two {mid} {j} {k} m x y) = rw (m, first_part file at, second_at x) ((ih _ _ _ _ x).fits, (ih _ _ _ _ y).fits)
+    operands_fit (Operands.one {a} {j} m x) = rw (m, first_part file at) (ih _ _ _ _ x).fits
+    operands_fit (Operands.two {a} {b} {mid} {j} {k} m x y) = rw (m, first_part file at, second_at x) ((ih _ _ _ _ x).fits, (ih _ _ _ _ y).fits)
 
     -- ---- the number, by its form
     abbrev Lies : Form → Type 0
@@ -96,29 +101,35 @@ module _ (file : List ℕ) (vars : ℕ) (most : vars ≤ 12) (state : List ℤ)
     form_at_lem : {f : Form} → form_at file at ≡ f → form_at (part_at file at) 0 ≡ f
     form_at_lem is = form_part file at ∙ is
 
-    count_at : {f : Form} {own n a b m : ℕ} → form_at file at ≡ f → row_of f ≡ row own n a b → (signature_at file at).operands ≡ m → n ≡ m
-    count_at is r m = rw (signature_by (kind_at file at) is, r) at m
+    operands_at : {f : Form} {own : Sort} {p q : SortOperands} → form_at file at ≡ f → row_of f ≡ row own p → (signature_at file at).operands ≡ q
+        → p ≡ q
+    operands_at is r m = rw (signature_by (kind_at file at) is, r) at m
+
+    count_at : {f : Form} {own : Sort} {p q : SortOperands} → form_at file at ≡ f → row_of f ≡ row own p → (signature_at file at).operands ≡ q
+        → count p ≡ count q
+    count_at is r m = ap count (operands_at is r m)
 
     constant_lies : Lies Constant
     constant_lies i is (Operands.none m e) =
         rw (number_constant {below = levels} refl (part_at file at) state (form_at_lem is), leaf_constant file at is, value_part file at)
         (constant_in (value_b file at))
-    constant_lies i is (Operands.one {j} m x) = absurd (omega (arith, count_at is refl m))
-    constant_lies i is (Operands.two {mid} {j} {k} m x y) = absurd (omega (arith, count_at is refl m))
+    constant_lies i is (Operands.one {a} {j} m x) = absurd (omega (arith, count_at is refl m))
+    constant_lies i is (Operands.two {a} {b} {mid} {j} {k} m x y) = absurd (omega (arith, count_at is refl m))
 
     variable_lies : (form_at file at ≡ Variable → field_a file at < vars) → Lies Variable
     variable_lies named i is (Operands.none m e) =
         rw (number_variable {below = levels} refl (part_at file at) state (form_at_lem is), leaf_variable file at is, variable_part file at)
         (inside (field_a file at) (named is))
-    variable_lies named i is (Operands.one {j} m x) = absurd (omega (arith, count_at is refl m))
-    variable_lies named i is (Operands.two {mid} {j} {k} m x y) = absurd (omega (arith, count_at is refl m))
+    variable_lies named i is (Operands.one {a} {j} m x) = absurd (omega (arith, count_at is refl m))
+    variable_lies named i is (Operands.two {a} {b} {mid} {j} {k} m x y) = absurd (omega (arith, count_at is refl m))
 
     arithmetic_lies : Lies Arithmetic
     arithmetic_lies i is (Operands.none m e) = absurd (omega (arith, count_at is refl m))
-    arithmetic_lies i is (Operands.one {j} m x) = absurd (omega (arith, count_at is refl m))
-    arithmetic_lies i is (Operands.two {mid} {j} {k} m x y) =
-        let first : (signature_at file at).first ≡ number_sort = rw (signature_by (kind_at file at) is) in
-        let second : (signature_at file at).second ≡ number_sort = rw (signature_by (kind_at file at) is) in
+    arithmetic_lies i is (Operands.one {a} {j} m x) = absurd (omega (arith, count_at is refl m))
+    arithmetic_lies i is (Operands.two {a} {b} {mid} {j} {k} m x y) =
+        let both : Two number_sort number_sort ≡ Two a b = operands_at is refl m in
+        let first : a ≡ number_sort = cc in
+        let second : b ≡ number_sort = cc in
         let operands_in = combine_in_lem (kind_at file at) ((ih _ _ _ _ x).number_lies (rw first)) ((ih _ _ _ _ y).number_lies (rw second)) in
         rw (
           number_arithmetic {below = levels} refl (part_at file at) state (form_at_lem is),
@@ -131,16 +142,17 @@ module _ (file : List ℕ) (vars : ℕ) (most : vars ≤ 12) (state : List ℤ)
 
     indicator_lies : Lies Indicator
     indicator_lies i is (Operands.none m e) = absurd (omega (arith, count_at is refl m))
-    indicator_lies i is (Operands.one {j} m x) =
+    indicator_lies i is (Operands.one {a} {j} m x) =
         rw (number_indicator {below = levels} refl (part_at file at) state (form_at_lem is)) (indicator_in_lem _)
-    indicator_lies i is (Operands.two {mid} {j} {k} m x y) = absurd (omega (arith, count_at is refl m))
+    indicator_lies i is (Operands.two {a} {b} {mid} {j} {k} m x y) = absurd (omega (arith, count_at is refl m))
 
     division_lies : Lies Division
     division_lies i is (Operands.none m e) = absurd (omega (arith, count_at is refl m))
-    division_lies i is (Operands.one {j} m x) = absurd (omega (arith, count_at is refl m))
-    division_lies i is (Operands.two {mid} {j} {k} m x y) =
-        let first : (signature_at file at).first ≡ number_sort = rw (signature_by (kind_at file at) is) in
-        let second : (signature_at file at).second ≡ divisor_sort = rw (signature_by (kind_at file at) is) in
+    division_lies i is (Operands.one {a} {j} m x) = absurd (omega (arith, count_at is refl m))
+    division_lies i is (Operands.two {a} {b} {mid} {j} {k} m x y) =
+        let both : Two number_sort divisor_sort ≡ Two a b = operands_at is refl m in
+        let first : a ≡ number_sort = cc in
+        let second : b ≡ divisor_sort = cc in
         let d = expression_divisor file vars mid end levels (rw second at y) in
         let in_second = rw d.alone at ((ih _ _ _ _ y).number_lies (rw second)) in
         let worth : number levels (part_at file mid) state ≡ value_b file mid = omega (ints, in_second.above, in_second.below) in
@@ -156,7 +168,7 @@ module _ (file : List ℕ) (vars : ℕ) (most : vars ≤ 12) (state : List ℤ)
         )
         (divide_in_lem (kind_at file at) (value_b file mid) d.above ((ih _ _ _ _ x).number_lies (rw first)))
 
-  sound : (levels want at end : ℕ) (i : Interval) → Expression file vars levels want at end i → Sound levels want at i
+  sound : (levels : ℕ) (want : Sort) (at end : ℕ) (i : Interval) → Expression file vars levels want at end i → Sound levels want at i
   unfolding Fits
   sound zero want at end i x = absurd (expression_deepest file vars want at end x)
   sound (suc levels) want at end i x =
@@ -164,7 +176,7 @@ module _ (file : List ℕ) (vars : ℕ) (most : vars ≤ 12) (state : List ℤ)
       let ih = sound levels in
       let lies : sort_for want ≡ number_sort → In (number (suc levels) (part_at file at) state) i =
       λ w. number_forms (Lies levels at end ih) (kind_at file at) (constant_lies levels at end ih) (variable_lies levels at end ih o.variable)
-      (arithmetic_lies levels at end ih) (indicator_lies levels at end ih) (division_lies levels at end ih) (o.sort ∙ w) i refl o.operands in
+      (arithmetic_lies levels at end ih) (indicator_lies levels at end ih) (division_lies levels at end ih) (o.sort ∙ ap Some w) i refl o.operands in
       record {
         fits = (
           record {
@@ -179,7 +191,7 @@ module _ (file : List ℕ) (vars : ℕ) (most : vars ≤ 12) (state : List ℤ)
         number_lies = lies;
       }
 
-  module _ (levels want at end : ℕ) (i : Interval) (x : Expression file vars levels want at end i) where
+  module _ (levels : ℕ) (want : Sort) (at end : ℕ) (i : Interval) (x : Expression file vars levels want at end i) where
     pub expression_fits : Fits levels want (part_at file at) state
     expression_fits = (sound levels want at end i x).fits
 

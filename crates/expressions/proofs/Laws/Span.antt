@@ -13,10 +13,11 @@ use native.Mathlib.Omega.{arith}
 use lib.IntN.{ℤ}
 use lib.ListN.{length, get_or, drop, replicate, length-drop}
 use lib.Seq.{get_or-drop, drop-drop}
-use Rattle.records.specs.Kind.{signature_at}
-use Rattle.records.specs.Record.{kind_at}
+use Rattle.records.specs.declared.kinds.Sort.{Sort}
+use Rattle.records.specs.declared.kinds.Operands.{Operands}
+use Rattle.records.specs.declared.kinds.Operands.TheVariants.{Zero, One, Two}
+use Rattle.records.specs.Kind.{count, signature_at}
 use Rattle.records.specs.Walk.{spans, span}
-use Rattle.records.proofs.Laws.Kind.{operands_most}
 use Rattle.records.proofs.Laws.Span.{kind_part, spans_none, spans_one, spans_two, span_opens}
 use Rattle.expressions.specs.Expression.{part_at, first_operand, second_operand}
 use Rattle.expressions.specs.Spans.{span_by, with_span, spans_from, spans_of, Spans}
@@ -36,7 +37,7 @@ module _ (file : List ℕ) where
   -- v as the entry for record i: the expression that begins there, if one does, has v records, and there are as many
   pub record Entry (i v : ℕ) : Type 0 where
     pub within : i ≤ length file / 8 → i + v ≤ length file / 8
-    pub right : (levels want : ℕ) (state : List ℤ) → Fits levels want (part_at file i) state → v ≡ span levels (part_at file i)
+    pub right : (levels : ℕ) (want : Sort) (state : List ℤ) → Fits levels want (part_at file i) state → v ≡ span levels (part_at file i)
 
   -- ---- one record, by the entries behind it
   module _ (at : ℕ) (rest : List ℕ) (entry : (k : ℕ) → Entry (at + 1 + k) (get_or rest k 0)) where
@@ -49,31 +50,29 @@ module _ (file : List ℕ) where
     by_within (suc zero) l = omega (arith, first_entry.within l)
     by_within (suc (suc n)) l = omega (arith, (entry (get_or rest 0 0)).within (first_entry.within l))
 
-    by_right : (below a b : ℕ) (state : List ℤ) (n : ℕ) → n ≤ 2
-        → OperandsFit (λ sort p. Fits below sort p state) below (part_at file at) a b n → span_by n rest ≡ spans (span below) n 1 (part_at file at)
+    by_right : (below : ℕ) (state : List ℤ) (operands : Operands) → OperandsFit (λ sort p. Fits below sort p state) below (part_at file at) operands
+        → span_by (count operands) rest ≡ spans (span below) (count operands) 1 (part_at file at)
     unfolding OperandsFit first_operand second_operand span_by
-    by_right below a b state zero l h = rw spans_none
-    by_right below a b state (suc zero) l h =
+    by_right below state Zero h = rw spans_none
+    by_right below state (One a) h =
         rw (spans_one, first_part file at) (omega (arith, first_entry.right below a state (rw first_part at h)))
-    by_right below a b state (suc (suc zero)) l h =
+    by_right below state (Two a b) h =
         let r = first_entry.right below a state (rw first_part at h.0) in
         let g = second_part file at below (at + 1 + get_or rest 0 0) (omega arith) in
         let t = (entry (get_or rest 0 0)).right below b state (rw g at h.1) in
         rw (spans_two, g, first_part file at) (omega arith)
-    by_right below a b state (suc (suc (suc n))) l h = absurd (omega arith)
 
-    by_entry : at + 1 ≤ length file / 8 → Entry at (span_by (signature_at file at).operands rest)
+    by_entry : at + 1 ≤ length file / 8 → Entry at (span_by (count (signature_at file at).operands) rest)
     by_entry l =
+        let operands = (signature_at file at).operands in
         record {
-          within = λ m. by_within (signature_at file at).operands l;
+          within = λ m. by_within (count operands) l;
           right =
               λ levels want state h.
               let part = part_at file at in
-              let s = signature_at file at in
               let e = fits_level levels want part state h in
               rw (span_opens e part (kind_part file at))
-              (by_right (levels - 1) s.first s.second state s.operands (operands_most (kind_at file at))
-              (fits_opens e part state (kind_part file at) want h));
+              (by_right (levels - 1) state operands (fits_opens e part state (kind_part file at) want h));
         }
 
   -- ---- all of them; no expression begins behind the last record

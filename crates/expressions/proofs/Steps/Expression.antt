@@ -1,16 +1,18 @@
 -- The evaluators at one record: the answers for its operands make the answer for the whole. Assumes nothing.
 use mathlib.Core.Path.{◌≡◌, refl, sym, ap, ◌∙◌}
 use mathlib.Core.List.{List}
-use mathlib.Core.Bool.{Bool, not}
+use mathlib.Core.Bool.{Bool, true, false, not}
 use Prim.Native.Nat.{ℕ, suc, ◌+◌, ◌-◌}
 use lib.ListN.{get_or}
 use lib.Dec.{eqb}
 use lib.IntN.{ℤ, pos}
+use mir.Val.{bool_byte}
 use Rattle.integers.specs.Interval.{bounds}
 use Rattle.integers.specs.Inside.{In}
 use Rattle.records.specs.Form.{Form}
 use Rattle.records.specs.Form.Form.{Constant, Variable, Arithmetic, Indicator, Division, Literal, Negation, Connective, Comparison}
 use Rattle.records.specs.Record.{kind_at, field_a, value_b}
+use Rattle.records.specs.declared.kinds.Sort.{Sort}
 use Rattle.records.specs.Kind.{number as number_sort, divisor as divisor_sort}
 use Rattle.records.specs.Form.{form_of, form_at}
 use Rattle.intervals.specs.Interval.{combine, divide}
@@ -20,8 +22,14 @@ use Rattle.expressions.proofs.Laws.Expression.{first_is, number_constant, number
 use Rattle.expressions.proofs.Laws.Expression.{truth_literal, truth_negation, truth_connective, truth_comparison, fits_small, divisor_worth}
 use Rattle.expressions.proofs.Laws.Operand.{Asked, Two, level}
 
+-- ---- an indicator's number, as `i64::from` has it
+from_bool_is : (x : Bool) → pos (bool_byte x) ≡ indicator_of x
+unfolding indicator_of
+from_bool_is true = refl
+from_bool_is false = refl
+
 -- ---- the answers
-module _ (levels want : ℕ) (part table : List ℕ) (at : ℕ) (state : List ℤ) (h : Asked levels want part table at state) where
+module _ (levels : ℕ) (want : Sort) (part table : List ℕ) (at : ℕ) (state : List ℤ) (h : Asked levels want part table at state) where
   abbrev here : levels ≡ suc (levels - 1)
   here = level levels want part table at state h
 
@@ -35,13 +43,13 @@ module _ (levels want : ℕ) (part table : List ℕ) (at : ℕ) (state : List �
   literal_is is f = rw (← is, truth_literal here part state (ap form_of is ∙ f))
 
   module _ {p : List ℕ} (e : p ≡ part_at part 1) {x : Bool} (a : x ≡ truth (levels - 1) p state) where
-    pub indicator_is : form_at part 0 ≡ Indicator → indicator_of x ≡ number levels part state
-    indicator_is is = rw (a, e, number_indicator here part state is, first_is part)
+    pub indicator_is : form_at part 0 ≡ Indicator → pos (bool_byte x) ≡ number levels part state
+    indicator_is is = rw (from_bool_is, a, e, number_indicator here part state is, first_is part)
 
     pub negation_is : form_at part 0 ≡ Negation → not x ≡ truth levels part state
     negation_is is = rw (a, e, truth_negation here part state is, first_is part)
 
-module _ {levels i j : ℕ} {f : Form} {part table : List ℕ} {at : ℕ} {p : List ℕ} {state : List ℤ} (t : Two levels i j f part table at p state)
+module _ {levels : ℕ} {i j : Sort} {f : Form} {part table : List ℕ} {at : ℕ} {p : List ℕ} {state : List ℤ} (t : Two levels i j f part table at p state)
     {kind : ℕ} (is : kind_at part 0 ≡ kind) where
   module _ {q : List ℕ} (d : q ≡ part_at part (1 + get_or table (at + 1) 0)) where
     module _ {x y : ℤ} (a : x ≡ number (levels - 1) p state) (b : y ≡ number (levels - 1) q state) where

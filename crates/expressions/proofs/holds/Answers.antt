@@ -18,7 +18,7 @@ slice_bounds-truth_at-count c = omega (arith, fits_here c.args.file.now c.args.a
 
 pub truth_at-requires : goal.truth_at-requires
 truth_at-requires c =
-    let l = lent _ _ c.requires.spans truth_sort c.args.at _ c.requires.fits in
+    let l = lent _ _ c.requires.spans truth_sort c.args.at _ c.requires.fits (take_rest (8 * c.args.at) c.args.file.now) in
     record { fits = l.0; room = l.1.0; spans = l.1.1 }
 
 pub returns : goal.returns

@@ -1,12 +1,15 @@
 -- Interval arithmetic is sound: a sum, a difference and a product of numbers lies in the interval over the operands' ends.
 -- One argument for all three: an operation that, in each operand, keeps what it gives between what it gives at the ends. Assumes nothing.
-use mathlib.Core.Path.{◌≡◌}
+use mathlib.Core.Path.{◌≡◌, refl}
 use mathlib.Core.Logic.{◌⊎◌, inl, inr}
-use mathlib.Core.Bool.{true, cond, and-eq-true_iff}
+use mathlib.Core.Bool.{true, false, cond, and-eq-true_iff}
 use Prim.Native.Nat.{ℕ, suc}
 use native.Mathlib.Nat.{mul-le-mul_left}
 use lib.IntN.{ℤ, pos, negsuc, ◌+ℤ◌, ◌-ℤ◌, ◌*ℤ◌, *ℤ_comm}
-use lib.Signed.{le_z, ◌≤ℤ◌}
+use lib.Signed.{le_z, lt_z, ◌≤ℤ◌}
+use Rattle.std.specs.Int.{int_min, int_max}
+use Rattle.std.specs.Ordering.{is_le, int_cmp}
+use Rattle.std.proofs.Common.{Less, Equal, Greater}
 use Rattle.integers.specs.declared.Interval.{Interval}
 use Rattle.integers.specs.Interval.{min_z, max_z, around, over_ends, between, bounds, in_bounds}
 use Rattle.integers.specs.Inside.{In, Bounded}
@@ -35,6 +38,22 @@ module _ (x y : ℤ) where
   pub max_right_is : x ≤ℤ y → max_z x y ≡ y
   unfolding max_z
   max_right_is h = let e : le_z x y ≡ true = omega ints in rw e
+
+-- the library's
+pub int_min_is : (x y : ℤ) → int_min x y ≡ min_z x y
+unfolding min_z
+int_min_is x y = by-test (le_z x y) (λ t. int_min x y ≡ cond t x y)
+    (λ h. let e : lt_z y x ≡ false = omega ints in rw e) (λ h. let e : lt_z y x ≡ true = omega ints in rw e)
+
+pub int_max_is : (x y : ℤ) → int_max x y ≡ max_z x y
+unfolding max_z
+int_max_is x y = by-test (le_z x y) (λ t. int_max x y ≡ cond t y x)
+    (λ h. let e : lt_z y x ≡ false = omega ints in rw e) (λ h. let e : lt_z y x ≡ true = omega ints in rw e)
+
+pub int_max_flipped : (x y : ℤ) → int_max x y ≡ max_z y x
+unfolding max_z
+int_max_flipped x y = by-test (le_z y x) (λ t. int_max x y ≡ cond t x y)
+    (λ h. by-test (lt_z y x) (λ t. cond t x y ≡ x) (λ k. refl) (λ k. omega ints)) (λ h. let e : lt_z y x ≡ false = omega ints in rw e)
 
 -- the least and the greatest of four
 module _ (p q r s : ℤ) where
@@ -129,6 +148,14 @@ product_betweens = record {
 }
 
 -- ---- bounds
+
+-- the library's comparison
+pub cmp_le : (x y : ℤ) → is_le (int_cmp x y) ≡ le_z x y
+cmp_le x y = by-test (lt_z x y) (λ t. is_le (cond t Less (cond (lt_z y x) Greater Equal)) ≡ le_z x y)
+    (λ h. let e : le_z x y ≡ true = omega ints in rw e)
+    (λ h. by-test (lt_z y x) (λ t. is_le (cond t Greater Equal) ≡ le_z x y)
+    (λ k. let e : le_z x y ≡ false = omega ints in rw e)
+    (λ k. let e : le_z x y ≡ true = omega ints in rw e))
 
 between_in : (x : ℤ) → between (negsuc 999999) (pos 1000000) x ≡ true → In x bounds
 between_in x e = let b = (and-eq-true_iff (le_z (negsuc 999999) x) (le_z x (pos 1000000))).0 e in record { above = omega ints; below = omega ints }

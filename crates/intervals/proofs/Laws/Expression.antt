@@ -6,18 +6,21 @@
 --     expression_span      it ends behind as many records as its span
 --     expression_divisor   where a divisor is asked it is a constant above 0, and its interval holds that alone (C2.15)
 -- Assumes nothing.
-use mathlib.Core.Path.{◌≡◌, refl}
+use mathlib.Core.Path.{◌≡◌, refl, sym, ◌∙◌}
 use mathlib.Core.List.{List}
 use Prim.Native.Nat.{ℕ, zero, suc, ◌+◌, ◌*◌, ◌/◌, ◌<◌, ◌≤◌}
 use native.Mathlib.Omega.{arith}
 use lib.IntN.{pos}
 use lib.ListN.{length, drop}
 use lib.Signed.{◌≤ℤ◌}
+use Rattle.std.specs.declared.result.Result.TheVariants.{Ok}
 use Rattle.integers.specs.declared.Interval.{Interval}
 use Rattle.integers.specs.Inside.{Bounded}
-use Rattle.records.specs.declared.walk.Walked.TheVariants.{End}
 use Rattle.records.specs.Form.Form.{Constant}
 use Rattle.records.specs.Record.{kind_at, value_b}
+use Rattle.records.specs.declared.kinds.Sort.{Sort}
+use Rattle.records.specs.declared.kinds.Operands.{Operands as RecordOperands}
+use Rattle.records.specs.declared.kinds.Operands.TheVariants.{Zero, One, Two}
 use Rattle.records.specs.Kind.{divisor as divisor_sort, signature_at}
 use Rattle.records.specs.Form.{form_at}
 use Rattle.records.specs.Walk.{operands_of, walk_of, span}
@@ -31,19 +34,17 @@ use Rattle.intervals.proofs.Laws.Interval.{Analysed, analysis_opens, analysis_bo
 
 -- ---- the operands
 module _ (file : List ℕ) (vars levels at end : ℕ) where
-  operands_of_lem : {i : Interval} → Analysed file levels at end i → (n : ℕ) → (signature_at file at).operands ≡ n
-      → let s = signature_at file at in operands_of (walk_of file vars levels) s.first s.second n (at + 1) ≡ End end → Operands file vars levels at end i
-  operands_of_lem (Analysed.none m e) n is s = Operands.none m e
-  operands_of_lem (Analysed.one {j} m l) n is s =
-      let z : n ≡ 1 = omega arith in
-      Operands.one m (record { walks = operands_one (walk_of file vars levels) _ _ (at + 1) end (rw z at s); bounds = l })
-  operands_of_lem (Analysed.two {mid} {j} {k} m l r) n is s =
-      let z : n ≡ 2 = omega arith in
-      let f = operands_two (walk_of file vars levels) _ _ (at + 1) end (rw z at s) in
+  operands_of_lem : {i : Interval} → Analysed file levels at end i → (ops : RecordOperands) → (signature_at file at).operands ≡ ops
+      → operands_of (walk_of file vars levels) ops (at + 1) ≡ Ok end → Operands file vars levels at end i
+  operands_of_lem (Analysed.none m e) ops is s = Operands.none m e
+  operands_of_lem (Analysed.one {a} {j} m l) ops is s =
+      Operands.one m (record { walks = operands_one (walk_of file vars levels) (at + 1) end a (rw (sym is ∙ m) at s); bounds = l })
+  operands_of_lem (Analysed.two {a} {b} {mid} {j} {k} m l r) ops is s =
+      let f = operands_two (walk_of file vars levels) (at + 1) end (rw (sym is ∙ m) at s) in
       let y = analysis_walk file vars levels _ (at + 1) f.mid j mid f.first l in
       Operands.two {mid = mid} m (record { walks = rw y f.first; bounds = l }) (record { walks = rw y f.rest; bounds = r })
 
-  pub expression_opens : {want : ℕ} {i : Interval} → Expression file vars (suc levels) want at end i → Opened file vars levels want at end i
+  pub expression_opens : {want : Sort} {i : Interval} → Expression file vars (suc levels) want at end i → Opened file vars levels want at end i
   expression_opens {want} {i} x =
       let w = walk_opens file vars levels want at end x.walks in
       record {
@@ -54,7 +55,7 @@ module _ (file : List ℕ) (vars levels at end : ℕ) where
         operands = operands_of_lem (analysis_opens i end file levels at x.bounds).2 (signature_at file at).operands refl w.operands;
       }
 
-module _ (file : List ℕ) (vars want at end : ℕ) {i : Interval} where
+module _ (file : List ℕ) (vars : ℕ) (want : Sort) (at end : ℕ) {i : Interval} where
   pub expression_deepest : Expression file vars zero want at end i → ⊥
   expression_deepest x = walk_deepest file vars want at end x.walks
 
@@ -78,8 +79,9 @@ module _ (file : List ℕ) (vars at end : ℕ) where
   constant_alone : {levels : ℕ} {i : Interval} → form_at file at ≡ Constant → Operands file vars levels at end i
       → i ≡ interval (value_b file at) (value_b file at)
   constant_alone c (Operands.none m e) = leaf_constant file at c
-  constant_alone c (Operands.one {j} m x) = absurd (omega (arith, rw (signature_by (kind_at file at) c) at m))
-  constant_alone c (Operands.two {mid} {j} {k} m x y) = absurd (omega (arith, rw (signature_by (kind_at file at) c) at m))
+  constant_alone c (Operands.one {a} {j} m x) = let z : ◌≡◌ {A = ℕ} 0 1 = (let y = rw (signature_by (kind_at file at) c) at m in cc) in absurd (omega arith)
+  constant_alone c (Operands.two {a} {b} {mid} {j} {k} m x y) =
+      let z : ◌≡◌ {A = ℕ} 0 1 = (let y = rw (signature_by (kind_at file at) c) at m in cc) in absurd (omega arith)
 
   pub expression_divisor : (levels : ℕ) {i : Interval} → Expression file vars levels divisor_sort at end i → Divisor file at i
   expression_divisor zero x = absurd (expression_deepest file vars divisor_sort at end x)

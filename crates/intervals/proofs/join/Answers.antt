@@ -4,20 +4,22 @@ use native.Mathlib.Omega.{arith}
 use mathlib.Core.Path.{◌≡◌, ◌∙◌}
 use mathlib.Core.Bool.{and-false}
 use borrow.Author.Tests.{le-leb, lt-leb}
+use lib.IntN.{pos}
 use mir.Syntax.{w64}
 use mir.Val.{to_z, of_z}
+use mir.Facts.{to_z-of_z}
 use Rattle.integers.proofs.Laws.Parts.{back}
-use Rattle.integers.proofs.Laws.Interval.{max_left}
+use Rattle.integers.proofs.Laws.Bounds.{in_fits}
+use Rattle.integers.proofs.Laws.Interval.{max_left, int_max_flipped}
 use Rattle.intervals.specs.Interval.{divisor_of, join_of}
 use Rattle.intervals.proofs.join.Goals as goal
-use Rattle.intervals.proofs.join.Goals.{After-greater}
+use Rattle.intervals.proofs.join.Goals.{After-max}
 
 -- the divisor
-chosen : (c : After-greater) → to_z w64 (of_z w64 c.greater.result) ≡ divisor_of c.args.j
+chosen : (c : After-max) → to_z w64 (of_z w64 c.max.result) ≡ divisor_of c.args.j
 chosen c =
-    let g = c.greater in
-    let j = c.args.j in
-    rw (back w64 g.result g.type_inv, g.ensures, back w64 j.low c.struct_told-1.given.0.1)
+    let m = c.max in
+    rw (back w64 m.result m.type_inv, m.ensures.value, to_z-of_z (in_fits c.requires.right.low)) (int_max_flipped c.args.j.low (pos 1))
 
 pub divided-requires : goal.divided-requires
 divided-requires c = rw (chosen c) (max_left _ _)

@@ -13,10 +13,14 @@ use Prim.Native.Nat.{ℕ, ◌<◌, ◌≤◌}
 use native.Mathlib.Decide.{ℕ_discrete, dec_lt}
 use native.Mathlib.Omega.{arith}
 use lib.ListN.{length, drop}
+use Rattle.std.specs.declared.result.Result.{Result}
+use Rattle.std.specs.declared.result.Result.TheVariants.{Ok, Err}
+use Rattle.shapes.specs.declared.Outline.{Outline}
+use Rattle.shapes.specs.declared.Refusal.{Refusal}
+use Rattle.shapes.specs.Refusal.{refused_number, refused_place}
 use Rattle.truths.proofs.Laws.Truth.{by-test}
 use Rattle.states.proofs.Laws.State.{within_length}
 use Rattle.diagrams.specs.declared.Diagram.{Diagram}
-use Rattle.shapes.specs.declared.Reading.{Reading}
 use Rattle.diagrams.specs.Diagram.{found_of, diagram_of, Loaded}
 use Rattle.diagrams.specs.Start.{starts_of, Readable}
 use Rattle.diagrams.proofs.Laws.Diagram.{find_refuses, diagram_loaded, promised}
@@ -38,25 +42,24 @@ pub record Read (file : List ℕ) : Type 0 where
   pub is : verdict_of file ≡ judged_of file diagram
 
 pub record Unread (file : List ℕ) : Type 0 where
-  pub number : ℕ
-  pub place : ℕ
-  pub from : 2 ≤ number
-  pub within : place ≤ 4096
-  pub is : verdict_of file ≡ refused_of number place
+  pub refusal : Refusal
+  pub from : 2 ≤ refused_number refusal
+  pub within : refused_place refusal ≤ 4096
+  pub is : verdict_of file ≡ refused_of refusal
 
 pub read_or_not : (file : List ℕ) → Read file ⊎ Unread file
 read_or_not file = found (found_of file) refl
   where
-    found : (x : Reading) → found_of file ≡ x → Read file ⊎ Unread file
-    found (Reading.Found o) is =
+    found : (x : Result Outline Refusal) → found_of file ≡ x → Read file ⊎ Unread file
+    found (Ok o) is =
         let g = diagram_of file o in
         let r = diagram_loaded file o is in
         by-test (starts_of file g) (λ t. Read file ⊎ Unread file)
         (λ s. inl (record { diagram = g; readable = record { loaded = r; starts = s }; is = verdict_judged file g r s }))
-        (λ s. inr (record { number = 20; place = 0; from = omega arith; within = omega arith; is = verdict_startless file g r s }))
-    found (Reading.Refused number place) is =
-        let small = find_refuses file number place is in
-        inr (record { number = number; place = place; from = small.0; within = small.1; is = verdict_refused file number place is })
+        (λ s. inr (record { refusal = Refusal.NoStart; from = omega arith; within = omega arith; is = verdict_startless file g r s }))
+    found (Err refusal) is =
+        let small = find_refuses file refusal is in
+        inr (record { refusal = refusal; from = small.0; within = small.1; is = verdict_refused file refusal is })
 
 -- ---- what an accepted file claims
 accepted_claims : (file : List ℕ) → (verdict_of file).number ≡ 0 → Claim file

@@ -9,7 +9,7 @@ use Rattle.judging.proofs.check.Goals as goal
 
 pub returns-then-report-lt32 : goal.returns-then-report-lt32
 returns-then-report-lt32 c =
-    let e = c.unnamed.ensures ∙ sym (check_short _ c.if-report-lt32.true) in
+    let e = c.refused.ensures ∙ sym (check_short _ c.if-report-lt32.true) in
     record { verdict = e; written = report_short _ _ c.if-report-lt32.true; decides = check_decides _ _ e; sound = check_claims _ _ e }
 
 pub returns : goal.returns

@@ -1,41 +1,26 @@
--- `parsing::parse_nodes` meets its contract: what `nodes` finds picks the case, and whether a wait-for has all its phases; then what
--- `edges` finds.
+-- `parsing::parse_nodes` meets its contract: the nodes are counted, and whether there are enough, then the edges, and whether they end the file.
 -- Assumes nothing.
-use Rattle.parsing.proofs.Steps.Outline.{nodes_few, nodes_refused, edges_followed, edges_whole, edges_refused}
-use mathlib.Core.Path.{ap, ◌∙◌}
-use Rattle.shapes.specs.Property.{property_of}
+use Rattle.std.proofs.Common.{arith}
+use Rattle.std.proofs.lemmas.Grind.{common_steps}
+use Rattle.parsing.specs.Outline.{nodes_parsed}
 use Rattle.parsing.proofs.parse_nodes.Goals as goal
 
-pub returns-then-count-phases_or : goal.returns-then-count-phases_or
-returns-then-count-phases_or c =
-    let row = c.property_of-row.ensures in
-    let claim = c.claim_at.ensures in
-    nodes_few _ _ _ _ _ _ (row ∙ ap property_of claim) c.phases_or-most.ensures.0 c.nodes-found.ensures c.in-Items.is
-    c.phases_or.ensures.0 c.if-count-phases_or.true
+pub returns-in_err-nodes : goal.returns-in_err-nodes
+unfolding nodes_parsed
+returns-in_err-nodes c = grind (arith, common_steps)
 
-pub returns-then-end-file : goal.returns-then-end-file
-returns-then-end-file c =
-    let row = c.property_of-row.ensures in
-    let claim = c.claim_at.ensures in
-    edges_followed _ _ _ _ _ _ (row ∙ ap property_of claim) c.phases_or-most.ensures.0 c.nodes-found.ensures c.in-Items.is
-    c.phases_or.ensures.0 c.if-count-phases_or.false c.edges-last.ensures c.in-Items-last.is c.if-end-file.true
+pub returns-then-nodes-phases_or : goal.returns-then-nodes-phases_or
+unfolding nodes_parsed
+returns-then-nodes-phases_or c = grind (arith, common_steps)
 
-pub returns-else-end-file : goal.returns-else-end-file
-returns-else-end-file c =
-    let row = c.property_of-row.ensures in
-    let claim = c.claim_at.ensures in
-    edges_whole _ _ _ _ _ _ (row ∙ ap property_of claim) c.phases_or-most.ensures.0 c.nodes-found.ensures c.in-Items.is
-    c.phases_or.ensures.0 c.if-count-phases_or.false c.edges-last.ensures c.in-Items-last.is c.if-end-file.false
+pub returns-in_err-edges : goal.returns-in_err-edges
+unfolding nodes_parsed
+returns-in_err-edges c = grind (arith, common_steps)
 
-pub returns-in-Refused-last : goal.returns-in-Refused-last
-returns-in-Refused-last c =
-    let row = c.property_of-row.ensures in
-    let claim = c.claim_at.ensures in
-    edges_refused _ _ _ _ _ _ (row ∙ ap property_of claim) c.phases_or-most.ensures.0 c.nodes-found.ensures c.in-Items.is
-    c.phases_or.ensures.0 c.if-count-phases_or.false c.edges-last.ensures c.in-Refused-last.is
+pub returns-then-edges-file : goal.returns-then-edges-file
+unfolding nodes_parsed
+returns-then-edges-file c = grind (arith, common_steps)
 
-pub returns-in-Refused : goal.returns-in-Refused
-returns-in-Refused c =
-    let row = c.property_of-row.ensures in
-    let claim = c.claim_at.ensures in
-    nodes_refused _ _ _ _ _ _ (row ∙ ap property_of claim) c.phases_or-most.ensures.0 c.nodes-found.ensures c.in-Refused.is
+pub returns : goal.returns
+unfolding nodes_parsed
+returns c = grind (arith, common_steps)

@@ -1,37 +1,36 @@
--- `parsing::parse_property` meets its contract: its record is tested, then where its expressions end picks the case.
+-- `parsing::parse_property` meets its contract: its record is tested, then its expressions, then what follows.
 -- Assumes nothing.
-use native.Mathlib.Omega.{arith}
-use Rattle.truths.proofs.Laws.Answer.{unless_left}
+use mathlib.Core.Path.{sym}
+use Rattle.std.proofs.Common.{arith}
+use Rattle.std.proofs.lemmas.Grind.{common_steps}
 use Rattle.records.proofs.Laws.Record.{kind_is_lem}
-use Rattle.parsing.proofs.Steps.Outline.{property_unnamed, property_field, property_ends, property_refused}
+use Rattle.parsing.specs.Outline.{property_parsed}
 use Rattle.parsing.proofs.parse_property.Goals as goal
 
 pub returns-then-not-kind_is : goal.returns-then-not-kind_is
-returns-then-not-kind_is c = property_unnamed _ _ _ _ _ c.kind_is.ensures c.if-not-kind_is.true-raw
-
-pub property_fields-requires : goal.property_fields-requires
-property_fields-requires c = omega (arith, (kind_is_lem _ _ _ (unless_left c.kind_is.ensures c.if-not-kind_is.false-raw)).0)
+unfolding property_parsed
+returns-then-not-kind_is c = grind (arith, common_steps)
 
 pub returns-then-not-property_fields : goal.returns-then-not-property_fields
-returns-then-not-property_fields c =
-    property_field _ _ _ _ _ c.kind_is.ensures c.if-not-kind_is.false-raw c.property_fields.ensures c.if-not-property_fields.true-raw
+unfolding property_parsed
+returns-then-not-property_fields c = grind (arith, common_steps)
+
+pub returns-in_err-node : goal.returns-in_err-node
+unfolding property_parsed
+returns-in_err-node c = grind (arith, common_steps)
+
+pub returns : goal.returns
+unfolding property_parsed
+returns c = grind (arith, common_steps)
+
+pub property_fields-requires : goal.property_fields-requires
+property_fields-requires c = omega (arith, (kind_is_lem _ _ _ (sym c.if-not-kind_is.ensures)).0)
 
 pub expressions-requires : goal.expressions-requires
-expressions-requires c = omega (arith, (kind_is_lem _ _ _ (unless_left c.kind_is.ensures c.if-not-kind_is.false-raw)).0)
+expressions-requires c = omega (arith, (kind_is_lem _ _ _ (sym c.if-not-kind_is.ensures)).0)
 
 pub overflow_add-property : goal.overflow_add-property
-overflow_add-property c = omega (arith, (kind_is_lem _ _ _ (unless_left c.kind_is.ensures c.if-not-kind_is.false-raw)).0)
+overflow_add-property c = omega (arith, (kind_is_lem _ _ _ (sym c.if-not-kind_is.ensures)).0)
 
 pub parse_nodes-requires : goal.parse_nodes-requires
-parse_nodes-requires c =
-    omega (arith, (kind_is_lem _ _ _ (unless_left c.kind_is.ensures c.if-not-kind_is.false-raw)).0)
-
-pub returns-in-End : goal.returns-in-End
-returns-in-End c =
-    property_ends _ _ _ _ _ c.kind_is.ensures c.if-not-kind_is.false-raw c.property_fields.ensures c.if-not-property_fields.false-raw
-    c.expressions.ensures c.truths-found.ensures c.in-End.is c.parse_nodes.ensures
-
-pub returns-in-Refused : goal.returns-in-Refused
-returns-in-Refused c =
-    property_refused _ _ _ _ _ c.kind_is.ensures c.if-not-kind_is.false-raw c.property_fields.ensures c.if-not-property_fields.false-raw
-    c.expressions.ensures c.truths-found.ensures c.in-Refused.is
+parse_nodes-requires c = omega (arith, (kind_is_lem _ _ _ (sym c.if-not-kind_is.ensures)).0)

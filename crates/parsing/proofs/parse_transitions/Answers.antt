@@ -1,13 +1,14 @@
--- `parsing::parse_transitions` meets its contract: what `transitions` finds picks the case.
+-- `parsing::parse_transitions` meets its contract: the transitions are counted, then what follows.
 -- Assumes nothing.
-use mathlib.Core.Path.{sym, ◌∙◌}
+use Rattle.std.proofs.Common.{arith}
+use Rattle.std.proofs.lemmas.Grind.{common_steps}
 use Rattle.parsing.specs.Outline.{transitions_parsed}
 use Rattle.parsing.proofs.parse_transitions.Goals as goal
 
-pub returns-in-Items : goal.returns-in-Items
+pub returns-in_err-transitions : goal.returns-in_err-transitions
 unfolding transitions_parsed
-returns-in-Items c = simp (sym c.transitions-found.ensures ∙ c.in-Items.is) c.parse_property.ensures
+returns-in_err-transitions c = grind (arith, common_steps)
 
-pub returns-in-Refused : goal.returns-in-Refused
+pub returns : goal.returns
 unfolding transitions_parsed
-returns-in-Refused c = simp (sym c.transitions-found.ensures ∙ c.in-Refused.is)
+returns c = grind (arith, common_steps)

@@ -1,12 +1,8 @@
 -- `ranges::ends`: with the ends of v variables filled in, the table is that of v variables.
 -- Assumes nothing.
 use mathlib.Core.Path.{◌≡◌}
-use Prim.Native.Nat.{◌-◌, ◌≤◌}
 use Rattle.ranges.specs.Range.{ends_of}
 use Rattle.ranges.proofs.ends.Given as goal
 
 abbrev pub invariant-loop-v : goal.invariant-loop-v
-invariant-loop-v l = (l.v ≤ l.vars) × (l.ends ≡ ends_of l.file l.v l.field)
-
-abbrev pub decreases-loop-v : goal.decreases-loop-v
-decreases-loop-v l = l.vars - l.v
+invariant-loop-v l = l.ends ≡ ends_of l.file l.v l.field

@@ -15,6 +15,7 @@ use lib.Dec.{ltb, leb, eqb}
 use Rattle.shapes.specs.declared.Property.{Property}
 use Rattle.shapes.specs.declared.Edge.{Edge}
 use Rattle.shapes.specs.declared.Outline.{Outline}
+use Rattle.shapes.specs.declared.Refusal.{Refusal}
 use Rattle.shapes.specs.Edge.{double_from}
 use Rattle.shapes.proofs.Laws.Edge.{double_from_lem}
 use Rattle.sections.specs.Section.{property_at, edge_at}
@@ -74,7 +75,7 @@ module _ (file : List ℕ) (o : Outline) (r : Stages file o) where
   edge_obeys e l =
       (and-eq-true_iff (leads_of (property_at file o.property) (edge_of file o e))
       (cond (property_at file o.property).doubles (double_rule_of file o (o.edge + e)) (not (edge_of file o e).double))).0
-      (refuse_all 9 (rule_of file o) r.rules.end o.edges o.edge r.rules.is e l)
+      (refuse_all Refusal.Edge (rule_of file o) r.rules.end o.edges o.edge r.rules.is e l)
 
   pub edge_leads : (e : ℕ) → e < o.edges
       → ((property_at file o.property).from ≤ (edge_of file o e).from)
@@ -128,7 +129,7 @@ module _ (file : List ℕ) (o : Outline) (r : Stages file o) where
     node_doubled n k l =
         let from = (property_at file o.property).from in
         let z : from + (n - from) ≡ n = omega arith in
-        rw z at (refuse_all 10 (doubled_of file o) r.doubles.end (o.nodes - from) from (rw may at r.doubles.is) (n - from) (omega arith))
+        rw z at (refuse_all Refusal.NoWayDown (doubled_of file o) r.doubles.end (o.nodes - from) from (rw may at r.doubles.is) (n - from) (omega arith))
 
     -- a node has a double edge; no other transition has one from it, and that one no single edge
     pub double_transition : (n : ℕ) → (property_at file o.property).from ≤ n → n < o.nodes → DoubleTransition file o n

@@ -14,20 +14,20 @@ use native.Mathlib.Omega.{arith}
 use borrow.Author.Tests.{leb-true}
 use lib.Dec.{leb}
 use lib.ListN.{length}
+use Rattle.std.specs.declared.result.Result.TheVariants.{Ok, Err}
+use Rattle.shapes.specs.declared.Refusal.{Refusal}
 use Rattle.truths.proofs.Laws.Truth.{by-test}
 use Rattle.integers.specs.declared.Interval.{Interval}
-use Rattle.records.specs.declared.walk.Walked.{Walked}
 use Rattle.records.specs.Record.{kind_at, value_b, value_c, kind_is}
 use Rattle.states.specs.Number.{size_of}
-use Rattle.records.specs.Kind.{none, number, truth, signature_of, signature_at}
-use Rattle.records.specs.Form.{Form, form_of, row_of}
-use Rattle.records.specs.Form.Form.{Constant, Variable, Arithmetic, Indicator, Division, Literal, Negation, Connective, Comparison, Unfit}
+use Rattle.std.specs.declared.option.Option.TheVariants.{None}
+use Rattle.records.specs.declared.kinds.Sort.{Sort}
+use Rattle.records.specs.Kind.{number, truth, signature_at}
 use Rattle.records.proofs.Laws.Record.{kind_is_lem}
-use Rattle.records.proofs.Laws.Kind.{signature_form, head_none, sort_for_some}
+use Rattle.records.proofs.Laws.Kind.{head_none, has_sort}
 use Rattle.sections.specs.Section.{is_update}
 use Rattle.sections.proofs.Laws.Section.{update_assigns}
 use Rattle.shapes.specs.declared.Outline.{Outline}
-use Rattle.shapes.specs.declared.Reading.{Reading}
 use Rattle.intervals.specs.Expression.{Expression, Operands}
 use Rattle.intervals.proofs.Laws.Expression.{expression_opens, expression_deepest}
 use Rattle.reading.specs.declared.product.Combined.{Combined}
@@ -50,23 +50,6 @@ abbrev pub combinations : {file : List ℕ} {vars end at : ℕ} {vs : List ℕ} 
 combinations (Updates.none e) = 1
 combinations (Updates.more e l x rest apart) = choices x * combinations rest
 
--- ---- the operands of an expression have sorts: the first where there is one, the second where there are two
-row_sorts : (f : Form) → ((row_of f).operands ≤ 2 * (row_of f).first) × ((row_of f).operands ≤ 1 + (row_of f).second)
-row_sorts Constant = omega arith
-row_sorts Variable = omega arith
-row_sorts Arithmetic = omega arith
-row_sorts Indicator = omega arith
-row_sorts Division = omega arith
-row_sorts Literal = omega arith
-row_sorts Negation = omega arith
-row_sorts Connective = omega arith
-row_sorts Comparison = omega arith
-row_sorts Unfit = omega arith
-
-operand_sorts : (kind : ℕ)
-    → ((signature_of kind).operands ≤ 2 * (signature_of kind).first) × ((signature_of kind).operands ≤ 1 + (signature_of kind).second)
-operand_sorts kind = rw (signature_form kind) (row_sorts (form_of kind))
-
 -- ---- the scan
 -- it has come to record `at` with this product, and goes on to the file's end
 record Scanned (file : List ℕ) (at product : ℕ) : Type 0 where
@@ -84,7 +67,7 @@ module _ (file : List ℕ) where
 
   module _ (at : ℕ) where
     within_limit : (p : Combined) (left : ℕ) → at + suc left ≡ length file / 8 → (b : Bool) → leb p.product 4096 ≡ b
-        → Ends (cond b (picks_from file left (at + 1) p) (Walked.Refused 22 p.place)) → Scanned file (at + 1) p.product
+        → Ends (cond b (picks_from file left (at + 1) p) (Err (Refusal.Picks p.place))) → Scanned file (at + 1) p.product
     within_limit p left all true is e = record { met = p; is = refl; few = leb-true _ _ is; left = left; all = omega arith; rest = e }
     within_limit p left all false is e = let z : ◌≡◌ {A = ℕ} 0 1 = cc e.is in absurd (omega arith)
 
@@ -115,7 +98,7 @@ module _ (file : List ℕ) where
       unfolding past_record
       past_other l t p = rw (other_kind 0x03 t, other_kind 0x08 p, s.is) at (past_any l)
 
-      past_sorted : at < length file / 8 → ((signature_at file at).sort ≡ none → ⊥) → Scanned file (at + 1) product
+      past_sorted : at < length file / 8 → ((signature_at file at).sort ≡ None → ⊥) → Scanned file (at + 1) product
       past_sorted l some = past_other l (λ k. some (head_none (omega arith))) (λ k. some (head_none (omega arith)))
 
   -- some product is met at each record
@@ -126,21 +109,19 @@ module _ (file : List ℕ) where
   -- ---- through a transition
   module _ (vars : ℕ) where
     module _ (levels at end : ℕ) {product : ℕ} (s : Scanned file (at + 1) product)
-        (operand : (want x y : ℕ) (j : Interval) → (want ≡ none → ⊥) → Expression file vars levels want x y j → Scanned file x product
+        (operand : (want : Sort) (x y : ℕ) (j : Interval) → Expression file vars levels want x y j → Scanned file x product
         → Scanned file y product) where
       past_operands : {i : Interval} → Operands file vars levels at end i → Scanned file end product
       past_operands (Operands.none m e) = rw e s
-      past_operands (Operands.one m x) = operand _ (at + 1) end _ (λ z. omega (arith, operand_sorts (kind_at file at))) x s
-      past_operands (Operands.two {mid} m x y) =
-          operand _ mid end _ (λ z. omega (arith, operand_sorts (kind_at file at))) y
-          (operand _ (at + 1) mid _ (λ z. omega (arith, operand_sorts (kind_at file at))) x s)
+      past_operands (Operands.one m x) = operand _ (at + 1) end _ x s
+      past_operands (Operands.two {mid = mid} m x y) = operand _ mid end _ y (operand _ (at + 1) mid _ x s)
 
-    past_expression : {product : ℕ} (levels want at end : ℕ) (i : Interval) → (want ≡ none → ⊥) → Expression file vars levels want at end i
+    past_expression : {product : ℕ} (levels : ℕ) (want : Sort) (at end : ℕ) (i : Interval) → Expression file vars levels want at end i
         → Scanned file at product → Scanned file end product
-    past_expression zero want at end i some x s = absurd (expression_deepest file vars want at end x)
-    past_expression (suc levels) want at end i some x s =
+    past_expression zero want at end i x s = absurd (expression_deepest file vars want at end x)
+    past_expression (suc levels) want at end i x s =
         let o = expression_opens file vars levels at end x in
-        let own = past_sorted at s o.here (λ z. sort_for_some want some (sym o.sort ∙ z)) in
+        let own = past_sorted at s o.here (has_sort o.sort) in
         past_operands levels at end own (past_expression levels) o.operands
 
     past_update : {at end product : ℕ} → is_update file at ≡ true → (x : Update file vars at end) → Scanned file at product
@@ -148,7 +129,7 @@ module _ (file : List ℕ) where
     past_update {at} {end} {product} u (Update.assigns k x) s =
         let b = kind_is_lem file 0x04 at (update_assigns file vars at u k) in
         rw (mul-one product)
-        (past_expression 16 number (at + 1) end _ (λ z. omega arith) x (past_other at s b.0 (λ z. omega arith) (λ z. omega arith)))
+        (past_expression 16 number (at + 1) end _ x (past_other at s b.0 (λ z. omega arith) (λ z. omega arith)))
     past_update {at} u (Update.picks k o l h) s = past_pick at s k
 
     past_updates : {end at product : ℕ} {vs : List ℕ} (h : Updates file vars end at vs) → Scanned file at product
@@ -157,11 +138,11 @@ module _ (file : List ℕ) where
     past_updates {product = product} (Updates.more e l x rest apart) s =
         rw (← mul_assoc product (choices x) (combinations rest)) (past_updates rest (past_update e x s))
 
-module _ (file : List ℕ) (o : Outline) (r : read_of file ≡ Reading.Found o) where
+module _ (file : List ℕ) (o : Outline) (r : read_of file ≡ Ok o) where
   pub combinations_most : {t : ℕ} (x : Transition file o t) → combinations x.updates ≤ 4096
   combinations_most x =
       let here = (kind_is_lem file 0x03 x.place x.named).0 in
       let s = (scanned_at file (stages_of file o r).picks x.place (omega arith)).1 in
       let head = past_transition file x.place s x.named in
-      let guard = past_expression file o.vars 16 truth (x.place + 1) x.behind x.interval (λ z. omega arith) x.guard head in
+      let guard = past_expression file o.vars 16 truth (x.place + 1) x.behind x.interval x.guard head in
       omega (arith, (past_updates file o.vars x.updates guard).few, one-mul (combinations x.updates))

@@ -17,7 +17,8 @@ use native.Mathlib.Omega.{arith}
 use lib.Dec.{eqb}
 use lib.ListN.{length, get_or}
 use lib.Signed.{◌≤ℤ◌}
-use Rattle.records.specs.declared.walk.Walked.{Walked}
+use Rattle.std.specs.declared.result.Result.TheVariants.{Ok}
+use Rattle.records.specs.Walk.{Walked}
 use Rattle.shapes.specs.declared.Outline.{Outline}
 use Rattle.records.specs.Record.{field_a, field_b, value_b, value_c}
 use Rattle.sections.specs.Section.{property_at, property_fields, expressions_of, transition_of, node_of}
@@ -26,7 +27,6 @@ use Rattle.records.proofs.Laws.Place.{places_nth}
 use Rattle.sections.proofs.Laws.Property.{property_known as known, phases_counted}
 use Rattle.parsing.proofs.Laws.Outline.{Parses}
 use Rattle.parsing.proofs.Laws.Parsed as parsed
-use Rattle.shapes.specs.declared.Reading.{Reading}
 use Rattle.ranges.specs.Range.{lows_of, highs_of}
 use Rattle.states.specs.Number.{count_of}
 use Rattle.reading.specs.States.{states_of}
@@ -40,7 +40,7 @@ use Rattle.reading.proofs.Laws.States.{states_most}
 use Rattle.reading.proofs.Laws.Scan as scan
 use Rattle.reading.proofs.Laws.Edge as edges
 
-module _ (file : List ℕ) (o : Outline) (r : read_of file ≡ Reading.Found o) where
+module _ (file : List ℕ) (o : Outline) (r : read_of file ≡ Ok o) where
   stages : Stages file o
   stages = stages_of file o r
 
@@ -99,8 +99,8 @@ module _ (file : List ℕ) (o : Outline) (r : read_of file ≡ Reading.Found o) 
   states_within = rw states_counted.0 (states_counted.1, states_counted.2)
 
   -- so that is what `states` answers
-  pub states_end : states_of file o.vars 0 1 ≡ Walked.End states
-  states_end = stages.states.is ∙ ap Walked.End (sym states_counted.0)
+  pub states_end : states_of file o.vars 0 1 ≡ Ok states
+  states_end = stages.states.is ∙ ap Ok (sym states_counted.0)
 
   -- ---- expressions
   pub start : Start file o

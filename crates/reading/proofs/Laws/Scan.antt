@@ -9,11 +9,13 @@ use Prim.Native.Nat.{ℕ, ◌+◌, ◌<◌, ◌≤◌}
 use native.Mathlib.Omega.{arith}
 use lib.ListN.{length, get_or, set, replicate, length-set}
 use lib.Seq.{get_or-set_same, get_or-set_other}
+use Rattle.std.specs.declared.result.Result.TheVariants.{Ok}
 use Rattle.integers.specs.declared.Interval.{Interval}
-use Rattle.records.specs.declared.walk.Walked.{Walked}
 use Rattle.shapes.specs.declared.Outline.{Outline}
 use Rattle.records.specs.Record.{field_a, kind_is}
-use Rattle.records.specs.Kind.{none, number, truth, within, signature_of}
+use Rattle.std.specs.declared.option.Option.TheVariants.{None}
+use Rattle.records.specs.declared.kinds.Sort.{Sort}
+use Rattle.records.specs.Kind.{number, truth, within, signature_of}
 use Rattle.records.specs.Walk.{walk_of, truth_of}
 use Rattle.sections.specs.Section.{property_at, is_update, update_fields, update_of, transition_of, expressions_of, phases_or}
 use Rattle.records.proofs.Laws.Kind.{head_none}
@@ -30,19 +32,19 @@ use Rattle.reading.proofs.Laws.Stage.{Stages}
 
 -- ---- the scan at an expression
 -- an expression that the scan passed on its way to the end, and the scan behind it
-record Passing (file : List ℕ) (last vars want at end : ℕ) : Type 0 where
+record Passing (file : List ℕ) (last vars : ℕ) (want : Sort) (at end : ℕ) : Type 0 where
   interval : Interval
   expression : Expression file vars 16 want at end interval
-  rest : Scan file (Walked.End last) end
+  rest : Scan file (Ok last) end
 
 -- an expression of a sort, where the scan has come to it
-module _ (file : List ℕ) (last vars want at end : ℕ) (some : want ≡ none → ⊥) (w : walk_of file vars 16 want at ≡ Walked.End end) where
-  passing_by : Tried file (Walked.End last) at end → Passing file last vars want at end
+module _ (file : List ℕ) (last vars : ℕ) (want : Sort) (at end : ℕ) (w : walk_of file vars 16 want at ≡ Ok end) where
+  passing_by : Tried file (Ok last) at end → Passing file last vars want at end
   passing_by (Tried.passed i within rest) = record { interval = i; expression = record { walks = w; bounds = within }; rest = rest }
   passing_by (Tried.refused place out e) = let z : ◌≡◌ {A = ℕ} 0 1 = cc in absurd (omega arith)
 
-  passing : Scan file (Walked.End last) at → Passing file last vars want at end
-  passing s = passing_by (scan_expression file (Walked.End last) vars want at end some w s)
+  passing : Scan file (Ok last) at → Passing file last vars want at end
+  passing s = passing_by (scan_expression file (Ok last) vars want at end w s)
 
 -- ---- a transition's updates
 -- none of the variables is marked
@@ -62,22 +64,22 @@ apart marks a l (v ∷ vs) u =
 -- an update that the scan passed, and the scan behind it
 record PassingUpdate (file : List ℕ) (last vars at end : ℕ) : Type 0 where
   update : Update file vars at end
-  rest : Scan file (Walked.End last) end
+  rest : Scan file (Ok last) end
 
-passing_update : (file : List ℕ) (last vars at end : ℕ) → is_update file at ≡ true → update_fields file vars at ≡ true → update_of file vars at ≡ Walked.End end
-    → Scan file (Walked.End last) at → PassingUpdate file last vars at end
+passing_update : (file : List ℕ) (last vars at end : ℕ) → is_update file at ≡ true → update_fields file vars at ≡ true → update_of file vars at ≡ Ok end
+    → Scan file (Ok last) at → PassingUpdate file last vars at end
 passing_update file last vars at end u f w s = by-test (kind_is file 0x08 at) (λ b. PassingUpdate file last vars at end) pick value
   where
     pick : kind_is file 0x08 at ≡ true → PassingUpdate file last vars at end
     pick k =
         let r = update_pick file vars at k f in
         rw (pick_ends file vars at k w)
-        (record { update = Update.picks k r.ordered r.low r.high; rest = scan_head file (Walked.End last) 0x08 at (head_none (omega arith)) k s })
+        (record { update = Update.picks k r.ordered r.low r.high; rest = scan_head file (Ok last) 0x08 at (head_none (omega arith)) k s })
 
     value : kind_is file 0x08 at ≡ false → PassingUpdate file last vars at end
     value k =
-        let head = scan_head file (Walked.End last) 0x04 at (head_none (omega arith)) (update_assigns file vars at u k) s in
-        let v = passing file last vars number (at + 1) end (λ z. omega arith) (assignment_ends file vars at k w) head in
+        let head = scan_head file (Ok last) 0x04 at (head_none (omega arith)) (update_assigns file vars at u k) s in
+        let v = passing file last vars number (at + 1) end (assignment_ends file vars at k w) head in
         record { update = Update.assigns k v.expression; rest = v.rest }
 
 module _ (file : List ℕ) (last vars end : ℕ) where
@@ -90,9 +92,9 @@ module _ (file : List ℕ) (last vars end : ℕ) where
   updated_none marks k = record { variables = []; updates = Updates.none k; unmarked = tt }
 
   updated_more : (marks : List ℕ) (at x : ℕ) → is_update file at ≡ true → update_fields file vars at ≡ true → get_or marks (field_a file at) 0 ≡ 0
-      → update_of file vars at ≡ Walked.End x
-      → (vars ≤ length (set marks (field_a file at) 1) → Scan file (Walked.End last) x → Updated (set marks (field_a file at) 1) x)
-      → vars ≤ length marks → Scan file (Walked.End last) at → Updated marks at
+      → update_of file vars at ≡ Ok x
+      → (vars ≤ length (set marks (field_a file at) 1) → Scan file (Ok last) x → Updated (set marks (field_a file at) 1) x)
+      → vars ≤ length marks → Scan file (Ok last) at → Updated marks at
   updated_more marks at x k f free w rest m s =
       let v = passing_update file last vars at x k f w s in
       let r = rest (rw length-set m) v.rest in
@@ -111,13 +113,13 @@ module _ (file : List ℕ) (last vars end : ℕ) where
     guard : Expression file vars 16 truth (at + 1) behind interval
     updated : Updated (replicate 12 0) behind
 
-  guarded : vars ≤ 12 → (at : ℕ) → kind_is file 0x03 at ≡ true → transition_of file vars at ≡ Walked.End end → Scan file (Walked.End last) at
+  guarded : vars ≤ 12 → (at : ℕ) → kind_is file 0x03 at ≡ true → transition_of file vars at ≡ Ok end → Scan file (Ok last) at
       → Guarded at
   guarded m at k e s =
       let t = transition_opens file vars end at e in
-      let head = scan_head file (Walked.End last) 0x03 at (head_none (omega arith)) k s in
-      let g = passing file last vars truth (at + 1) t.place (λ z. omega arith) t.guard head in
-      let updated = updates_induct file vars end (λ marks i. vars ≤ length marks → Scan file (Walked.End last) i → Updated marks i)
+      let head = scan_head file (Ok last) 0x03 at (head_none (omega arith)) k s in
+      let g = passing file last vars truth (at + 1) t.place t.guard head in
+      let updated = updates_induct file vars end (λ marks i. vars ≤ length marks → Scan file (Ok last) i → Updated marks i)
       (λ marks k l s. updated_none marks k) updated_more 12 (replicate 12 0) t.place t.updates m g.rest in
       record { behind = t.place; interval = g.interval; guard = g.expression; updated = updated }
 
@@ -128,21 +130,21 @@ module _ (file : List ℕ) (o : Outline) (r : Stages file o) where
 
   -- the scan goes on to the end from `at`
   abbrev Onward : ℕ → Type 0
-  Onward at = Scan file (Walked.End last) at
+  Onward at = Scan file (Ok last) at
 
   onward_first : Onward 0
-  onward_first = scan_begins file (Walked.End last) r.intervals.is
+  onward_first = scan_begins file (Ok last) r.intervals.is
 
-  onward_head : (kind at : ℕ) → (signature_of kind).sort ≡ none → kind_is file kind at ≡ true → Onward at → Onward (at + 1)
-  onward_head = scan_head file (Walked.End last)
+  onward_head : (kind at : ℕ) → (signature_of kind).sort ≡ None → kind_is file kind at ≡ true → Onward at → Onward (at + 1)
+  onward_head = scan_head file (Ok last)
 
-  onward_expression : (want at end : ℕ) → (want ≡ none → ⊥) → walk_of file o.vars 16 want at ≡ Walked.End end → Onward at → Onward end
-  onward_expression want at end some w s = (passing file last o.vars want at end some w s).rest
+  onward_expression : (want : Sort) (at end : ℕ) → walk_of file o.vars 16 want at ≡ Ok end → Onward at → Onward end
+  onward_expression want at end w s = (passing file last o.vars want at end w s).rest
 
   -- a truth behind a record that begins an item
-  item_passing : (kind at end : ℕ) → (signature_of kind).sort ≡ none → kind_is file kind at ≡ true
-      → walk_of file o.vars 16 truth (at + 1) ≡ Walked.End end → Onward at → Passing file last o.vars truth (at + 1) end
-  item_passing kind at end u k w s = passing file last o.vars truth (at + 1) end (λ z. omega arith) w (onward_head kind at u k s)
+  item_passing : (kind at end : ℕ) → (signature_of kind).sort ≡ None → kind_is file kind at ≡ true
+      → walk_of file o.vars 16 truth (at + 1) ≡ Ok end → Onward at → Passing file last o.vars truth (at + 1) end
+  item_passing kind at end u k w s = passing file last o.vars truth (at + 1) end w (onward_head kind at u k s)
 
   pub start_scanned : Start file o
   start_scanned =
@@ -172,9 +174,9 @@ module _ (file : List ℕ) (o : Outline) (r : Stages file o) where
   pub claimed_scanned : (i : ℕ) → i < expressions_of file o.property → PropertyExpression file o i
   claimed_scanned i l =
       let s = through.at_claims file o r.parsed Onward onward_head onward_expression onward_first in
-      let n = sequence_reach (truth_of file o.vars) Onward (λ x y w s. onward_expression truth x y (λ z. omega arith) w s)
+      let n = sequence_reach (truth_of file o.vars) Onward (λ x y w s. onward_expression truth x y w s)
       o.node (expressions_of file o.property) (o.property + 1) r.parsed.truths s i l in
-      let p = passing file last o.vars truth n.place n.behind (λ z. omega arith) n.ends n.holds in
+      let p = passing file last o.vars truth n.place n.behind n.ends n.holds in
       record { place = n.place; end = n.behind; reached = n.reached; interval = p.interval; expression = p.expression }
 
   pub node_scanned : (n : ℕ) → n < o.nodes → Node file o n

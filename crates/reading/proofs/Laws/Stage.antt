@@ -1,17 +1,15 @@
 -- The stages that a readable file passed.
 --     stages_of      from the reading answered
 -- Assumes nothing.
-use mathlib.Core.Path.{◌≡◌, refl, subst}
+use mathlib.Core.Path.{◌≡◌, subst}
 use mathlib.Core.List.{List}
 use Prim.Native.Nat.{ℕ}
-use native.Mathlib.Omega.{arith}
-use Rattle.records.specs.declared.walk.Walked.{Walked}
+use Rattle.std.specs.declared.result.Result.TheVariants.{Ok}
+use Rattle.records.specs.Walk.{Walked}
 use Rattle.shapes.specs.declared.Outline.{Outline}
 use Rattle.parsing.specs.Outline.{parsed_of}
-use Rattle.records.proofs.Laws.Walk.{First}
-use Rattle.parsing.proofs.Laws.Outline.{Parses, parses, walk_opens, same}
-use Rattle.shapes.specs.declared.Reading.{Reading}
-use Rattle.shapes.specs.Reading.{and_found}
+use Rattle.records.proofs.Laws.Walk.{First, then_ends}
+use Rattle.parsing.proofs.Laws.Outline.{Parses, parses}
 use Rattle.reading.specs.States.{states_of}
 use Rattle.reading.specs.Picks.{picks_of}
 use Rattle.intervals.specs.Interval.{intervals_of}
@@ -21,7 +19,11 @@ use Rattle.reading.specs.Read.{stages_read, read_of}
 -- a stage that refuses nothing
 pub record Ends (w : Walked) : Type 0 where
   pub end : ℕ
-  pub is : w ≡ Walked.End end
+  pub is : w ≡ Ok end
+
+-- so it is with one that the next stage follows
+ends : {A : Type 0} {w : Walked} {next : ℕ → A} {answer : A} → First w next answer → Ends w
+ends f = record { end = f.mid; is = f.first }
 
 -- what a readable file passed
 pub record Stages (file : List ℕ) (o : Outline) : Type 0 where
@@ -33,25 +35,22 @@ pub record Stages (file : List ℕ) (o : Outline) : Type 0 where
   pub doubles : Ends (doubles_of file o)
 
 module _ (file : List ℕ) (o : Outline) where
-  -- where a stage goes on
-  ends : {w : Walked} {next : ℕ → Reading} → First w next (Reading.Found o) → Ends w
-  ends f = record { end = f.mid; is = f.first }
-
-  stages : (p : Outline) → parsed_of file ≡ Reading.Found p → stages_read file p ≡ Reading.Found o → Stages file o
-  unfolding stages_read
-  stages p is e =
-      let s = walk_opens (states_of file p.vars 0 1) e in
-      let k = walk_opens (picks_of file) s.rest in
-      let i = walk_opens (intervals_of file) k.rest in
-      let r = walk_opens (rules_of file p) i.rest in
-      let d = walk_opens (doubles_of file p) r.rest in
-      subst (Stages file) (same o p d.rest)
-      (record { parsed = parses file p is; states = ends s; picks = ends k; intervals = ends i; rules = ends r; doubles = ends d })
-
-  from_parsed : (p : Reading) → parsed_of file ≡ p → and_found Reading.Refused p (stages_read file) ≡ Reading.Found o → Stages file o
-  from_parsed (Reading.Found p) is e = stages p is e
-  from_parsed (Reading.Refused n q) is e = let z : ◌≡◌ {A = ℕ} 0 1 = cc in absurd (omega arith)
-
-  pub stages_of : read_of file ≡ Reading.Found o → Stages file o
-  unfolding read_of
-  stages_of e = from_parsed (parsed_of file) refl e
+  pub stages_of : read_of file ≡ Ok o → Stages file o
+  unfolding read_of stages_read
+  stages_of e =
+      let p = then_ends (parsed_of file) e in
+      let s = then_ends (states_of file p.mid.vars 0 1) p.rest in
+      let k = then_ends (picks_of file) s.rest in
+      let i = then_ends (intervals_of file) k.rest in
+      let r = then_ends (rules_of file p.mid) i.rest in
+      let d = then_ends (doubles_of file p.mid) r.rest in
+      let same : p.mid ≡ o = cc in
+      subst (Stages file) same
+      (record {
+        parsed = parses file p.mid p.first;
+        states = ends s;
+        picks = ends k;
+        intervals = ends i;
+        rules = ends r;
+        doubles = ends d;
+      })

@@ -8,7 +8,8 @@ use native.Mathlib.Nat.{mul_assoc, mul-one, one-mul}
 use native.Mathlib.Omega.{arith}
 use borrow.Author.Tests.{leb-true}
 use lib.Dec.{leb}
-use Rattle.records.specs.declared.walk.Walked.{Walked}
+use Rattle.std.specs.declared.result.Result.TheVariants.{Ok, Err}
+use Rattle.shapes.specs.declared.Refusal.{Refusal}
 use Rattle.ranges.specs.Range.{lows_of, highs_of}
 use Rattle.states.specs.Number.{count_of}
 use Rattle.ranges.proofs.Laws.Product.{product_from, product_whole, product_more, product_lacked}
@@ -25,9 +26,9 @@ module _ (file : List ℕ) (vars : ℕ) where
   Built n at product s = (s ≡ product * product_from file vars n at) × (s ≤ 1048576)
 
   built_by : (n left at product s : ℕ) → at < vars → (b : Bool) → leb (product * size_at file at) 1048576 ≡ b
-      → (product * size_at file at ≤ 1048576 → states_of file left (at + 1) (product * size_at file at) ≡ Walked.End s
+      → (product * size_at file at ≤ 1048576 → states_of file left (at + 1) (product * size_at file at) ≡ Ok s
       → Built n (at + 1) (product * size_at file at) s)
-      → cond b (states_of file left (at + 1) (product * size_at file at)) (Walked.Refused 7 at) ≡ Walked.End s
+      → cond b (states_of file left (at + 1) (product * size_at file at)) (Err (Refusal.States at)) ≡ Ok s
       → Built (suc n) at product s
   built_by n left at product s l true is rest e =
       let z = rest (leb-true _ _ is) e in
@@ -35,7 +36,7 @@ module _ (file : List ℕ) (vars : ℕ) where
   built_by n left at product s l false is rest e = let z : ◌≡◌ {A = ℕ} 0 1 = cc in absurd (omega arith)
 
   -- of n ranges from `at` on the first `left` are those of variables, and the others have one value
-  states_built : (n left at product s : ℕ) → left ≡ vars - at → left ≤ n → product ≤ 1048576 → states_of file left at product ≡ Walked.End s
+  states_built : (n left at product s : ℕ) → left ≡ vars - at → left ≤ n → product ≤ 1048576 → states_of file left at product ≡ Ok s
       → Built n at product s
   unfolding states_of
   states_built n zero at product s v m l e =
@@ -47,7 +48,7 @@ module _ (file : List ℕ) (vars : ℕ) where
       (λ k. states_built n left (at + 1) (product * size_at file at) s (omega arith) (omega arith) k) e
 
   -- what refusal 7 leaves
-  pub states_most : (s : ℕ) → vars ≤ 12 → states_of file vars 0 1 ≡ Walked.End s
+  pub states_most : (s : ℕ) → vars ≤ 12 → states_of file vars 0 1 ≡ Ok s
       → (count_of (lows_of file vars) (highs_of file vars) ≡ s) × (1 ≤ s) × (s ≤ 1048576)
   states_most s m e =
       let z = states_built 12 vars 0 1 s (omega arith) m (omega arith) e in

@@ -5,12 +5,12 @@
 --     signature_form, signature_by                the signature of a kind is its form's (C2.2, C2.11)
 --     leaf_signature                              constants and variables have one signature
 --     head_none                                   the kinds below 10, which begin the items of a file, begin no expression
---     operands_most                               no kind has more than two operands
 --     number_forms, truth_forms                   what is so of each form of a number, of a truth, is so of any
 --     form_range, number_range, truth_range       a kind lies in the range of its form; the kinds of the numbers and of the truths
 --     variable_named                              a variable's record names one of the file's
 --     suits_above                               a divisor's record is a constant above 0 (C2.15)
---     sort_for_some                               where a sort is asked, the records that may stand there have one
+--     is_sort-true, is_sort-one, is_sort-no       the test of a sort
+--     has_sort                                    what has a sort is not without one
 -- Assumes nothing.
 use mathlib.Core.Path.{◌≡◌, refl, sym, ap, ◌∙◌}
 use mathlib.Core.Bool.{Bool, true, false, cond, ◌&&◌, and-eq-true_iff, and-false}
@@ -27,7 +27,13 @@ use Rattle.records.specs.declared.kinds.Signature.{Signature}
 use Rattle.records.specs.Form.{Form}
 use Rattle.records.specs.Form.Form.{Constant, Variable, Arithmetic, Indicator, Division, Literal, Negation, Connective, Comparison, Unfit}
 use Rattle.records.specs.Record.{kind_at, field_a, value_b, zeros_of}
-use Rattle.records.specs.Kind.{within, none, number, truth, divisor, sort_for, row, signature_of}
+use Rattle.std.specs.declared.option.Option.{Option}
+use Rattle.std.specs.declared.option.Option.TheVariants.{None, Some}
+use Rattle.records.specs.declared.kinds.Sort.{Sort}
+use Rattle.records.specs.declared.kinds.Sort.TheVariants.{Number, Truth, Divisor}
+use Rattle.records.specs.declared.kinds.Operands.{Operands}
+use Rattle.records.specs.declared.kinds.Operands.TheVariants.{Zero, One, Two}
+use Rattle.records.specs.Kind.{within, number, truth, divisor, sort_for, same_sort, is_sort, count, row, signature_of}
 use Rattle.records.specs.Form.{form_of, form_at, row_of}
 use Rattle.records.specs.Walk.{expression_fields, suits}
 
@@ -163,59 +169,44 @@ signature_form kind =
 pub signature_by : (kind : ℕ) {f : Form} → form_of kind ≡ f → signature_of kind ≡ row_of f
 signature_by kind is = signature_form kind ∙ ap row_of is
 
-pub leaf_signature : {kind : ℕ} → 0x10 ≤ kind → kind ≤ 0x11 → signature_of kind ≡ row number 0 none none
+pub leaf_signature : {kind : ℕ} → 0x10 ≤ kind → kind ≤ 0x11 → signature_of kind ≡ row number Zero
 unfolding signature_of
 leaf_signature l m = hits _ l m
 
 -- a record that begins an item of the file begins no expression
-pub head_none : {kind : ℕ} → kind < 0x10 → (signature_of kind).sort ≡ none
+pub head_none : {kind : ℕ} → kind < 0x10 → (signature_of kind).sort ≡ None
 head_none l = rw (signature_by _ (unfit_below l)) refl
 
-row_most : (f : Form) → (row_of f).operands ≤ 2
-row_most Constant = omega arith
-row_most Variable = omega arith
-row_most Arithmetic = omega arith
-row_most Indicator = omega arith
-row_most Division = omega arith
-row_most Literal = omega arith
-row_most Negation = omega arith
-row_most Connective = omega arith
-row_most Comparison = omega arith
-row_most Unfit = omega arith
-
-pub operands_most : (kind : ℕ) → (signature_of kind).operands ≤ 2
-operands_most kind = rw (signature_form kind) (row_most (form_of kind))
-
 module _ (P : Form → Type 0) where
-  by_number : P Constant → P Variable → P Arithmetic → P Indicator → P Division → (f : Form) → (row_of f).sort ≡ number → P f
+  by_number : P Constant → P Variable → P Arithmetic → P Indicator → P Division → (f : Form) → (row_of f).sort ≡ Some number → P f
   by_number c v a i d Constant e = c
   by_number c v a i d Variable e = v
   by_number c v a i d Arithmetic e = a
   by_number c v a i d Indicator e = i
   by_number c v a i d Division e = d
-  by_number c v a i d Literal e = absurd (omega arith)
-  by_number c v a i d Negation e = absurd (omega arith)
-  by_number c v a i d Connective e = absurd (omega arith)
-  by_number c v a i d Comparison e = absurd (omega arith)
-  by_number c v a i d Unfit e = absurd (omega arith)
+  by_number c v a i d Literal e = let z : ◌≡◌ {A = ℕ} 0 1 = cc in absurd (omega arith)
+  by_number c v a i d Negation e = let z : ◌≡◌ {A = ℕ} 0 1 = cc in absurd (omega arith)
+  by_number c v a i d Connective e = let z : ◌≡◌ {A = ℕ} 0 1 = cc in absurd (omega arith)
+  by_number c v a i d Comparison e = let z : ◌≡◌ {A = ℕ} 0 1 = cc in absurd (omega arith)
+  by_number c v a i d Unfit e = let z : ◌≡◌ {A = ℕ} 0 1 = cc in absurd (omega arith)
 
-  by_truth : P Literal → P Negation → P Connective → P Comparison → (f : Form) → (row_of f).sort ≡ truth → P f
+  by_truth : P Literal → P Negation → P Connective → P Comparison → (f : Form) → (row_of f).sort ≡ Some truth → P f
   by_truth l n c m Literal e = l
   by_truth l n c m Negation e = n
   by_truth l n c m Connective e = c
   by_truth l n c m Comparison e = m
-  by_truth l n c m Constant e = absurd (omega arith)
-  by_truth l n c m Variable e = absurd (omega arith)
-  by_truth l n c m Arithmetic e = absurd (omega arith)
-  by_truth l n c m Indicator e = absurd (omega arith)
-  by_truth l n c m Division e = absurd (omega arith)
-  by_truth l n c m Unfit e = absurd (omega arith)
+  by_truth l n c m Constant e = let z : ◌≡◌ {A = ℕ} 0 1 = cc in absurd (omega arith)
+  by_truth l n c m Variable e = let z : ◌≡◌ {A = ℕ} 0 1 = cc in absurd (omega arith)
+  by_truth l n c m Arithmetic e = let z : ◌≡◌ {A = ℕ} 0 1 = cc in absurd (omega arith)
+  by_truth l n c m Indicator e = let z : ◌≡◌ {A = ℕ} 0 1 = cc in absurd (omega arith)
+  by_truth l n c m Division e = let z : ◌≡◌ {A = ℕ} 0 1 = cc in absurd (omega arith)
+  by_truth l n c m Unfit e = let z : ◌≡◌ {A = ℕ} 0 1 = cc in absurd (omega arith)
 
   module _ (kind : ℕ) where
-    pub number_forms : P Constant → P Variable → P Arithmetic → P Indicator → P Division → (signature_of kind).sort ≡ number → P (form_of kind)
+    pub number_forms : P Constant → P Variable → P Arithmetic → P Indicator → P Division → (signature_of kind).sort ≡ Some number → P (form_of kind)
     number_forms c v a i d s = by_number c v a i d (form_of kind) (rw (signature_form kind) at s)
 
-    pub truth_forms : P Literal → P Negation → P Connective → P Comparison → (signature_of kind).sort ≡ truth → P (form_of kind)
+    pub truth_forms : P Literal → P Negation → P Connective → P Comparison → (signature_of kind).sort ≡ Some truth → P (form_of kind)
     truth_forms l n c m s = by_truth l n c m (form_of kind) (rw (signature_form kind) at s)
 
 -- ---- the kinds of a form
@@ -258,14 +249,14 @@ module _ (kind : ℕ) where
   form_range is = rw is at in_range_lem
 
   -- none lies between the indicator and the divisions
-  pub number_range : (signature_of kind).sort ≡ number → (0x10 ≤ kind) × (kind ≤ 0x19) × (kind < 0x18 → kind ≤ 0x15)
+  pub number_range : (signature_of kind).sort ≡ Some number → (0x10 ≤ kind) × (kind ≤ 0x19) × (kind < 0x18 → kind ≤ 0x15)
   number_range s =
       number_forms (λ f. Range kind f → (0x10 ≤ kind) × (kind ≤ 0x19) × (kind < 0x18 → kind ≤ 0x15)) kind
       (λ r. (omega arith, omega arith, λ l. omega arith)) (λ r. (omega arith, omega arith, λ l. omega arith))
       (λ r. (omega arith, omega arith, λ l. omega arith)) (λ r. (omega arith, omega arith, λ l. omega arith))
       (λ r. (omega arith, omega arith, λ l. omega arith)) s in_range_lem
 
-  pub truth_range : (signature_of kind).sort ≡ truth → (0x20 ≤ kind) × (kind ≤ 0x29)
+  pub truth_range : (signature_of kind).sort ≡ Some truth → (0x20 ≤ kind) × (kind ≤ 0x29)
   truth_range s =
       truth_forms (λ f. Range kind f → (0x20 ≤ kind) × (kind ≤ 0x29)) kind (λ r. (omega arith, omega arith)) (λ r. (omega arith, omega arith))
       (λ r. (omega arith, omega arith)) (λ r. (omega arith, omega arith)) s in_range_lem
@@ -285,5 +276,32 @@ suits_above file at t =
     let b = (and-eq-true_iff (eqb (kind_at file at) 0x10) (lt_z (pos 0) (value_b file at))).0 t in
     (constant_form (eqb-true _ _ b.0), omega ints)
 
-pub sort_for_some : (want : ℕ) → (want ≡ none → ⊥) → sort_for want ≡ none → ⊥
-sort_for_some want some = by-test (eqb want divisor) (λ t. cond t number want ≡ none → ⊥) (λ e z. omega arith) (λ e. some)
+-- ---- the test of a sort
+same_sort-true : (s t : Sort) → same_sort s t ≡ true → s ≡ t
+same_sort-true Number Number e = refl
+same_sort-true Number Truth e = let z : ◌≡◌ {A = ℕ} 0 1 = cc in absurd (omega arith)
+same_sort-true Number Divisor e = let z : ◌≡◌ {A = ℕ} 0 1 = cc in absurd (omega arith)
+same_sort-true Truth Number e = let z : ◌≡◌ {A = ℕ} 0 1 = cc in absurd (omega arith)
+same_sort-true Truth Truth e = refl
+same_sort-true Truth Divisor e = let z : ◌≡◌ {A = ℕ} 0 1 = cc in absurd (omega arith)
+same_sort-true Divisor Number e = let z : ◌≡◌ {A = ℕ} 0 1 = cc in absurd (omega arith)
+same_sort-true Divisor Truth e = let z : ◌≡◌ {A = ℕ} 0 1 = cc in absurd (omega arith)
+same_sort-true Divisor Divisor e = refl
+
+same_sort-one : (s : Sort) → same_sort s s ≡ true
+same_sort-one Number = refl
+same_sort-one Truth = refl
+same_sort-one Divisor = refl
+
+pub is_sort-true : (o : Option Sort) (sort : Sort) → is_sort o sort ≡ true → o ≡ Some sort
+is_sort-true None sort e = let z : ◌≡◌ {A = ℕ} 0 1 = cc in absurd (omega arith)
+is_sort-true (Some s) sort e = ap Some (same_sort-true s sort e)
+
+pub is_sort-one : (o : Option Sort) (sort : Sort) → o ≡ Some sort → is_sort o sort ≡ true
+is_sort-one o sort e = rw e (same_sort-one sort)
+
+pub is_sort-no : (o : Option Sort) (sort : Sort) → (o ≡ Some sort → ⊥) → is_sort o sort ≡ false
+is_sort-no o sort h = by-test (is_sort o sort) (λ b. b ≡ false) (λ e. absurd (h (is_sort-true o sort e))) (λ e. refl)
+
+pub has_sort : {o : Option Sort} {sort : Sort} → o ≡ Some sort → o ≡ None → ⊥
+has_sort is none = let z : ◌≡◌ {A = ℕ} 0 1 = cc in omega arith

@@ -14,13 +14,17 @@ use native.Mathlib.Omega.{arith}
 use borrow.Author.Tests.{lt-ltb, eq-eqb}
 use lib.ListN.{length, get_or, take, drop, length-take, length-drop}
 use lib.Seq.{length-take-le, take-nil, take-take, drop-drop, get_or-take, get_or-drop, ext_get_or}
-use Rattle.records.specs.declared.walk.Walked.{Walked}
-use Rattle.records.specs.declared.walk.Walked.TheVariants.{End}
+use Rattle.std.specs.declared.option.Option.TheVariants.{Some}
+use Rattle.records.specs.declared.kinds.Sort.{Sort}
+use Rattle.records.specs.declared.kinds.Sort.TheVariants.{Number, Truth, Divisor}
+use Rattle.records.specs.declared.kinds.Operands.{Operands}
+use Rattle.records.specs.declared.kinds.Operands.TheVariants.{Zero, One, Two}
+use Rattle.std.specs.declared.result.Result.TheVariants.{Ok}
 use Rattle.records.specs.Record.{value, kind_at, field_a, value_b, value_c, zeros_of}
 use Rattle.records.specs.Kind.{sort_for, signature_at}
-use Rattle.records.specs.Walk.{expression_fields, suits, in_sequence, operands_of, record_then, divisor_then, walk_of, span}
-use Rattle.records.proofs.Laws.Kind.{operands_most}
-use Rattle.records.proofs.Laws.Walk.{walk_opens, walk_suits, walk_deepest, walk_bound, First, operands_none, operands_one, operands_two}
+use Rattle.records.specs.Walk.{Walked, expression_fields, suits, in_sequence, operands_of, record_then, divisor_then, walk_of, span}
+use Rattle.records.proofs.Laws.Kind.{is_sort-one}
+use Rattle.records.proofs.Laws.Walk.{walk_opens, walk_suits, walk_deepest, walk_bound, First, operands_one, operands_two}
 use Rattle.records.proofs.Laws.Span.{walk_span}
 
 -- ---- records that are the same
@@ -104,18 +108,20 @@ module _ (file file' : List ℕ) (at at' : ℕ) (byte : SameRecord file file' at
   fields_same vars =
       rw (kind_same, a_same, zeros_same 1 1 (omega arith), zeros_same 4 4 (omega arith), zeros_same 2 6 (omega arith), zeros_same 1 7 (omega arith))
 
-  suits_same : (want : ℕ) → suits file want at ≡ suits file' want at'
+  suits_same : (want : Sort) → suits file want at ≡ suits file' want at'
   unfolding suits
-  suits_same want = rw (kind_same, b_same)
+  suits_same Number = refl
+  suits_same Truth = refl
+  suits_same Divisor = rw (kind_same, b_same)
 
 -- ---- a copied expression
 -- it walks over n records, and they are the same as those from `at'` on
-pub record Copy (file file' : List ℕ) (vars levels want at at' n : ℕ) : Type 0 where
-  pub walks : walk_of file vars levels want at ≡ End (at + n)
+pub record Copy (file file' : List ℕ) (vars levels : ℕ) (want : Sort) (at at' n : ℕ) : Type 0 where
+  pub walks : walk_of file vars levels want at ≡ Ok (at + n)
   pub same : records_of file at n ≡ records_of file' at' n
 
 -- the operands of an expression that has two, of these sorts
-pub record TwoCopies (file file' : List ℕ) (vars levels a b at at' n : ℕ) : Type 0 where
+pub record TwoCopies (file file' : List ℕ) (vars levels : ℕ) (a b : Sort) (at at' n : ℕ) : Type 0 where
   pub left : ℕ
   pub right : ℕ
   pub all : n ≡ 1 + left + right
@@ -123,32 +129,32 @@ pub record TwoCopies (file file' : List ℕ) (vars levels a b at at' n : ℕ) : 
   pub second : Copy file file' vars levels b (at + (1 + left)) (at' + (1 + left)) right
 
 -- its own record, and its operands by how many there are, one level further in
-pub record CopiedRecord (file file' : List ℕ) (vars levels want at at' n : ℕ) : Type 0 where
+pub record CopiedRecord (file file' : List ℕ) (vars levels : ℕ) (want : Sort) (at at' n : ℕ) : Type 0 where
   pub some : 1 ≤ n
   pub there : at' < length file' / 8
-  pub sort : (signature_at file at).sort ≡ sort_for want
+  pub sort : (signature_at file at).sort ≡ Some (sort_for want)
   pub fields : expression_fields file vars at ≡ true
   pub suits : suits file want at ≡ true
   pub byte : SameRecord file file' at at'
-  pub none : (signature_at file at).operands ≡ 0 → n ≡ 1
-  pub one : (signature_at file at).operands ≡ 1 → Copy file file' vars levels (signature_at file at).first (at + 1) (at' + 1) (n - 1)
-  pub two : (signature_at file at).operands ≡ 2 → let s = signature_at file at in TwoCopies file file' vars levels s.first s.second at at' n
+  pub none : (signature_at file at).operands ≡ Zero → n ≡ 1
+  pub one : {a : Sort} → (signature_at file at).operands ≡ One a → Copy file file' vars levels a (at + 1) (at' + 1) (n - 1)
+  pub two : {a b : Sort} → (signature_at file at).operands ≡ Two a b → TwoCopies file file' vars levels a b at at' n
 
 module _ (file file' : List ℕ) (vars levels at at' n : ℕ) (same : records_of file at n ≡ records_of file' at' n) where
-  abbrev walk : ℕ → ℕ → Walked
+  abbrev walk : Sort → ℕ → Walked
   walk = walk_of file vars levels
 
   -- the operand from x to y
-  copied : (want k m x y : ℕ) → x ≡ at + k → y ≡ at + k + m → k + m ≤ n → walk want x ≡ End y → Copy file file' vars levels want (at + k) (at' + k) m
+  copied : (want : Sort) (k m x y : ℕ) → x ≡ at + k → y ≡ at + k + m → k + m ≤ n → walk want x ≡ Ok y → Copy file file' vars levels want (at + k) (at' + k) m
   copied want k m x y p q l w = record { walks = rw (← q, ← p) w; same = same_inside file file' at at' n same k m l }
 
-  ahead : (want x y : ℕ) → walk want x ≡ End y → x < y
+  ahead : (want : Sort) (x y : ℕ) → walk want x ≡ Ok y → x < y
   ahead want x y w = (walk_bound file vars levels want x y w).0
 
-  one_by : (a : ℕ) → walk a (at + 1) ≡ End (at + n) → Copy file file' vars levels a (at + 1) (at' + 1) (n - 1)
+  one_by : (a : Sort) → walk a (at + 1) ≡ Ok (at + n) → Copy file file' vars levels a (at + 1) (at' + 1) (n - 1)
   one_by a w = let l = ahead a (at + 1) (at + n) w in copied a 1 (n - 1) (at + 1) (at + n) refl (omega arith) (omega arith) w
 
-  two_by : (a b : ℕ) → First (walk a (at + 1)) (walk b) (End (at + n)) → TwoCopies file file' vars levels a b at at' n
+  two_by : (a b : Sort) → First (walk a (at + 1)) (walk b) (Ok (at + n)) → TwoCopies file file' vars levels a b at at' n
   two_by a b f =
       let y = f.mid in
       let l = ahead a (at + 1) y f.first in
@@ -162,13 +168,17 @@ module _ (file file' : List ℕ) (vars levels at at' n : ℕ) (same : records_of
         second = copied b (1 + k) (at + n - y) y (at + n) (omega arith) (omega arith) (omega arith) f.rest;
       }
 
-pub copy_opens : (file file' : List ℕ) (vars levels want at at' n : ℕ) → Copy file file' vars (suc levels) want at at' n
+-- no operands that end
+ends_none : (walk : Sort → ℕ → Walked) (at end : ℕ) → operands_of walk Zero at ≡ Ok end → at ≡ end
+unfolding operands_of
+ends_none walk at end e = cc
+
+pub copy_opens : (file file' : List ℕ) (vars levels : ℕ) (want : Sort) (at at' n : ℕ) → Copy file file' vars (suc levels) want at at' n
     → CopiedRecord file file' vars levels want at at' n
 copy_opens file file' vars levels want at at' n c =
     let o = walk_opens file vars levels want at (at + n) c.walks in
     let b = walk_bound file vars (suc levels) want at (at + n) c.walks in
     let l = same_there file file' at at' n c.same (omega arith) (omega arith) in
-    let s = signature_at file at in
     let walk = walk_of file vars levels in
     record {
       some = omega arith;
@@ -177,32 +187,30 @@ copy_opens file file' vars levels want at at' n c =
       fields = o.right;
       suits = walk_suits file vars levels want at (at + n) c.walks;
       byte = rw (add-zero, add-zero) at (same_record file file' at at' n c.same 0 (omega arith));
-      none = λ m. omega (arith, operands_none walk _ _ _ _ (rw m at o).operands);
-      one = λ m. one_by file file' vars levels at at' n c.same _ (operands_one walk _ _ _ _ (rw m at o).operands);
-      two = λ m. two_by file file' vars levels at at' n c.same _ _ (operands_two walk _ _ _ _ (rw m at o).operands);
+      none = λ m. let z : at + 1 ≡ at + n = ends_none walk (at + 1) (at + n) (rw m at o.operands) in omega arith;
+      one = λ m. one_by file file' vars levels at at' n c.same _ (operands_one walk (at + 1) (at + n) _ (rw m at o.operands));
+      two = λ m. two_by file file' vars levels at at' n c.same _ _ (operands_two walk (at + 1) (at + n) (rw m at o.operands));
     }
 
 -- ---- the copy's walk
-record_closes : (file : List ℕ) (vars want at : ℕ) (rest : Walked) → at < length file / 8 → (signature_at file at).sort ≡ sort_for want
+record_closes : (file : List ℕ) (vars : ℕ) (want : Sort) (at : ℕ) (rest : Walked) → at < length file / 8 → (signature_at file at).sort ≡ Some (sort_for want)
     → expression_fields file vars at ≡ true → record_then file vars want at rest ≡ rest
 unfolding record_then
-record_closes file vars want at rest l s f = rw (lt-ltb _ _ l, eq-eqb _ _ s, f)
+record_closes file vars want at rest l s f = rw (lt-ltb _ _ l, is_sort-one _ _ s, f)
 
 module _ (file file' : List ℕ) (vars : ℕ) where
-  module _ (levels want at at' n : ℕ) (o : CopiedRecord file file' vars levels want at at' n)
-      (operand : (want x x' k : ℕ) → Copy file file' vars levels want x x' k → walk_of file' vars levels want x' ≡ End (x' + k)) where
-    operands_walk : (q : ℕ) → (signature_at file at).operands ≡ q → q ≤ 2
-        → let s = signature_at file at in operands_of (walk_of file' vars levels) s.first s.second q (at' + 1) ≡ End (at' + n)
-    unfolding operands_of in_sequence
-    operands_walk zero is l = rw (o.none is)
-    operands_walk (suc zero) is l = rw (operand _ _ _ (n - 1) (o.one is)) (ap End (omega (arith, o.some)))
-    operands_walk (suc (suc zero)) is l =
+  module _ (levels : ℕ) (want : Sort) (at at' n : ℕ) (o : CopiedRecord file file' vars levels want at at' n)
+      (operand : (want : Sort) (x x' k : ℕ) → Copy file file' vars levels want x x' k → walk_of file' vars levels want x' ≡ Ok (x' + k)) where
+    operands_walk : (q : Operands) → (signature_at file at).operands ≡ q → operands_of (walk_of file' vars levels) q (at' + 1) ≡ Ok (at' + n)
+    unfolding operands_of
+    operands_walk Zero is = rw (o.none is)
+    operands_walk (One a) is = rw (operand _ _ _ (n - 1) (o.one is)) (ap Ok (omega (arith, o.some)))
+    operands_walk (Two a b) is =
         let t = o.two is in
         let z : at' + 1 + t.left ≡ at' + (1 + t.left) = omega arith in
-        rw (operand _ _ _ _ t.first, z, operand _ _ _ _ t.second) (ap End (omega arith))
-    operands_walk (suc (suc (suc q))) is l = absurd (omega arith)
+        rw (operand _ _ _ _ t.first, z, operand _ _ _ _ t.second) (ap Ok (omega arith))
 
-  pub walk_local : (levels want at at' n : ℕ) → Copy file file' vars levels want at at' n → walk_of file' vars levels want at' ≡ End (at' + n)
+  pub walk_local : (levels : ℕ) (want : Sort) (at at' n : ℕ) → Copy file file' vars levels want at at' n → walk_of file' vars levels want at' ≡ Ok (at' + n)
   unfolding walk_of divisor_then
   walk_local zero want at at' n c = absurd (walk_deepest file vars want at (at + n) c.walks)
   walk_local (suc levels) want at at' n c =
@@ -214,9 +222,9 @@ module _ (file file' : List ℕ) (vars : ℕ) where
         o.suits,
         ← k,
       )
-      (operands_walk levels want at at' n o (walk_local levels) (signature_at file at).operands refl (operands_most (kind_at file at)))
+      (operands_walk levels want at at' n o (walk_local levels) (signature_at file at).operands refl)
 
-  pub span_local : (levels want at at' n : ℕ) → Copy file file' vars levels want at at' n
+  pub span_local : (levels : ℕ) (want : Sort) (at at' n : ℕ) → Copy file file' vars levels want at at' n
       → span levels (drop (8 * at) file) ≡ span levels (drop (8 * at') file')
   span_local levels want at at' n c =
       let a = walk_span file vars levels want at (at + n) c.walks in

@@ -9,9 +9,10 @@ use Prim.Native.Nat.{ℕ, zero, suc, ◌+◌, ◌-◌, ◌<◌, ◌≤◌}
 use native.Mathlib.Numerals.{add-one}
 use native.Mathlib.Omega.{arith}
 use lib.ListN.{length, get_or, set, replicate}
-use Rattle.records.specs.declared.walk.Walked.{Walked}
-use Rattle.records.specs.declared.walk.Walked.TheVariants.{End, Refused}
-use Rattle.records.specs.Walk.{and_then, in_sequence}
+use Rattle.std.specs.declared.result.Result.TheVariants.{Ok, Err}
+use Rattle.shapes.specs.declared.Refusal.{Refusal}
+use Rattle.shapes.specs.Refusal.{and_then}
+use Rattle.records.specs.Walk.{Walked, in_sequence}
 use Rattle.records.specs.Place.{place_of, places_of}
 use Rattle.truths.proofs.Laws.Table.{length_table, table_at, table_none, table_more, table_rest}
 
@@ -31,33 +32,33 @@ module _ (part : ℕ → Walked) (n first : ℕ) where
 -- ---- as it is filled
 module _ (part : ℕ → Walked) where
   -- the last of n + 1 parts follows the n before it
-  then_end : (w : Walked) → and_then Refused w (λ x. End x) ≡ w
-  then_end (Walked.End x) = refl
-  then_end (Walked.Refused number place) = refl
+  then_end : (w : Walked) → and_then w (λ x. Ok x) ≡ w
+  then_end (Ok x) = refl
+  then_end (Err refusal) = refl
 
-  sequence_last : (n at : ℕ) → in_sequence part (suc n) at ≡ and_then Refused (in_sequence part n at) part
+  sequence_last : (n at : ℕ) → in_sequence part (suc n) at ≡ and_then (in_sequence part n at) part
   unfolding in_sequence
   sequence_last zero at = then_end (part at)
   sequence_last (suc n) at = behind (sequence_last n) (part at)
     where
-      behind : ((x : ℕ) → in_sequence part (suc n) x ≡ and_then Refused (in_sequence part n x) part) → (w : Walked)
-          → and_then Refused w (in_sequence part (suc n)) ≡ and_then Refused (and_then Refused w (in_sequence part n)) part
-      behind h (Walked.End x) = h x
-      behind h (Walked.Refused number place) = refl
+      behind : ((x : ℕ) → in_sequence part (suc n) x ≡ and_then (in_sequence part n x) part) → (w : Walked)
+          → and_then w (in_sequence part (suc n)) ≡ and_then (and_then w (in_sequence part n)) part
+      behind h (Ok x) = h x
+      behind h (Err refusal) = refl
 
   -- a refusal stands however many parts follow
-  sequence_stays : (n at number place m : ℕ) → in_sequence part n at ≡ Refused number place → in_sequence part (n + m) at ≡ Refused number place
-  sequence_stays n at number place zero e = let z : n + 0 ≡ n = omega arith in rw z e
-  sequence_stays n at number place (suc m) e =
+  sequence_stays : (n at : ℕ) (refusal : Refusal) (m : ℕ) → in_sequence part n at ≡ Err refusal → in_sequence part (n + m) at ≡ Err refusal
+  sequence_stays n at refusal zero e = let z : n + 0 ≡ n = omega arith in rw z e
+  sequence_stays n at refusal (suc m) e =
       let z : n + suc m ≡ suc (n + m) = omega arith in
-      rw z (sequence_last (n + m) at ∙ rw (sequence_stays n at number place m e))
+      rw z (sequence_last (n + m) at ∙ rw (sequence_stays n at refusal m e))
 
   module _ (n first : ℕ) where
     -- i entries are filled, and part i stands at `next`
     pub record Filled (table : List ℕ) (i next : ℕ) : Type 0 where
       pub room : n ≤ 32
       pub most : i ≤ n
-      pub reached : in_sequence part i first ≡ End next
+      pub reached : in_sequence part i first ≡ Ok next
       pub places : table ≡ places_of part i first
 
     pub filled_begins : n ≤ 32 → Filled (replicate 32 0) 0 first
@@ -77,7 +78,7 @@ module _ (part : ℕ → Walked) where
             let here : next ≡ standing part first i = rw f.reached in
             rw (f.places, here) (table_more 32 0 (standing part first) i l)
 
-        pub filled_more : (end : ℕ) → part next ≡ End end → Filled (set table i next) (i + 1) end
+        pub filled_more : (end : ℕ) → part next ≡ Ok end → Filled (set table i next) (i + 1) end
         filled_more end e =
             record {
               room = f.room;
@@ -87,15 +88,15 @@ module _ (part : ℕ → Walked) where
             }
 
         -- the parts behind one that is refused have no place
-        pub filled_refused : (number place : ℕ) → part next ≡ Refused number place → set table i next ≡ places_of part n first
+        pub filled_refused : (refusal : Refusal) → part next ≡ Err refusal → set table i next ≡ places_of part n first
         unfolding places_of
-        filled_refused number place e = set_places ∙ table_rest 32 0 (standing part first) (i + 1) n (omega arith) unplaced
+        filled_refused refusal e = set_places ∙ table_rest 32 0 (standing part first) (i + 1) n (omega arith) unplaced
           where
-            stopped : in_sequence part (i + 1) first ≡ Refused number place
+            stopped : in_sequence part (i + 1) first ≡ Err refusal
             stopped = rw add-one (sequence_last i first ∙ rw f.reached e)
 
             unplaced : (k : ℕ) → i + 1 ≤ k → standing part first k ≡ 0
             unplaced k l =
                 let z : i + 1 + (k - (i + 1)) ≡ k = omega arith in
-                let stays = sequence_stays (i + 1) first number place (k - (i + 1)) stopped in
-                ap place_of (subst (λ (m : ℕ). in_sequence part m first ≡ Refused number place) z stays)
+                let stays = sequence_stays (i + 1) first refusal (k - (i + 1)) stopped in
+                ap place_of (subst (λ (m : ℕ). in_sequence part m first ≡ Err refusal) z stays)

@@ -11,13 +11,16 @@ use native.Mathlib.Nat.{add-zero}
 use native.Mathlib.Omega.{arith}
 use lib.ListN.{drop}
 use lib.Seq.{get_or-drop, drop-drop}
-use Rattle.records.specs.declared.walk.Walked.{Walked}
-use Rattle.records.specs.declared.walk.Walked.TheVariants.{End, Refused}
+use Rattle.std.specs.declared.result.Result.TheVariants.{Ok, Err}
+use Rattle.shapes.specs.Refusal.{and_then}
 use Rattle.records.specs.Record.{kind_at}
-use Rattle.records.specs.Kind.{signature_of, signature_at}
+use Rattle.records.specs.declared.kinds.Sort.{Sort}
+use Rattle.records.specs.declared.kinds.Operands.{Operands}
+use Rattle.records.specs.declared.kinds.Operands.TheVariants.{Zero, One, Two}
+use Rattle.records.specs.Kind.{count, signature_of, signature_at}
 use Rattle.records.specs.Form.{form_of, form_at}
-use Rattle.records.specs.Walk.{and_then, in_sequence, operands_of, walk_of, spans, span}
-use Rattle.records.proofs.Laws.Walk.{walk_opens, walk_deepest}
+use Rattle.records.specs.Walk.{Walked, in_sequence, operands_of, walk_of, spans, span}
+use Rattle.records.proofs.Laws.Walk.{walk_opens, walk_deepest, then_ends}
 
 -- ---- the record of a part is the file's
 module _ (file : List ℕ) (at : ℕ) where
@@ -42,7 +45,7 @@ module _ (operand : List ℕ → ℕ) (k : ℕ) (part : List ℕ) where
   spans_two = refl
 
 pub span_opens : {levels below : ℕ} (e : levels ≡ suc below) (part : List ℕ) {kind : ℕ} (is : kind_at part 0 ≡ kind)
-    → span levels part ≡ spans (span below) (signature_of kind).operands 1 part
+    → span levels part ≡ spans (span below) (count (signature_of kind).operands) 1 part
 unfolding span
 span_opens e part is = rw (e, is)
 
@@ -53,37 +56,33 @@ spans_least operand part (suc n) k = let z = spans_least operand part n (k + ope
 
 pub span_some : (levels : ℕ) (part : List ℕ) → 0 < span (suc levels) part
 span_some levels part =
-    omega (arith, span_opens {below = levels} refl part refl, spans_least (span levels) part (signature_at part 0).operands 1)
+    omega (arith, span_opens {below = levels} refl part refl, spans_least (span levels) part (count (signature_at part 0).operands) 1)
 
 -- ---- and the walk
-module _ (file : List ℕ) (walk : ℕ → ℕ → Walked) (operand : List ℕ → ℕ)
-    (h : (want at end : ℕ) → walk want at ≡ End end → end ≡ at + operand (drop (8 * at) file)) (b : ℕ) where
-  after_spans : (a n at k end : ℕ) (w : Walked) → walk a (at + k) ≡ w
-      → ((m : ℕ) → in_sequence (walk b) n (at + m) ≡ End end → end ≡ at + spans operand n m (drop (8 * at) file))
-      → and_then Refused w (in_sequence (walk b) n) ≡ End end
-      → end ≡ at + spans operand n (k + operand (drop (8 * k) (drop (8 * at) file))) (drop (8 * at) file)
-  after_spans a n at k end (Walked.End i) is ih e =
+module _ (file : List ℕ) (walk : Sort → ℕ → Walked) (operand : List ℕ → ℕ)
+    (h : (want : Sort) (at end : ℕ) → walk want at ≡ Ok end → end ≡ at + operand (drop (8 * at) file)) where
+  -- behind an operand that k records stand before
+  behind : (a : Sort) (at k end : ℕ) → walk a (at + k) ≡ Ok end → end ≡ at + (k + operand (drop (8 * k) (drop (8 * at) file)))
+  behind a at k end is =
       let d : 8 * at + 8 * k ≡ 8 * (at + k) = omega arith in
       let z : drop (8 * k) (drop (8 * at) file) ≡ drop (8 * (at + k)) file = drop-drop (8 * k) (8 * at) file ∙ rw d in
-      let y = h a (at + k) i is in
-      let x : i ≡ at + (k + operand (drop (8 * k) (drop (8 * at) file))) = rw z (omega arith) in
-      ih (k + operand (drop (8 * k) (drop (8 * at) file))) (rw x at e)
-  after_spans a n at k end (Walked.Refused number place) is ih e = let z : ◌≡◌ {A = ℕ} 0 1 = cc in absurd (omega arith)
+      let y = h a (at + k) end is in
+      rw z (omega arith)
 
-  turn_spans : (n at k end : ℕ) → in_sequence (walk b) n (at + k) ≡ End end → end ≡ at + spans operand n k (drop (8 * at) file)
-  unfolding in_sequence spans
-  turn_spans zero at k end e = let z : at + k ≡ end = cc in sym z
-  turn_spans (suc n) at k end e = after_spans b n at k end (walk b (at + k)) refl (λ m. turn_spans n at m end) e
-
-  operands_spans : (a n at k end : ℕ) → operands_of walk a b n (at + k) ≡ End end → end ≡ at + spans operand n k (drop (8 * at) file)
+  operands_spans : (operands : Operands) (at end : ℕ) → operands_of walk operands (at + 1) ≡ Ok end
+      → end ≡ at + spans operand (count operands) 1 (drop (8 * at) file)
   unfolding operands_of spans
-  operands_spans a zero at k end e = let z : at + k ≡ end = cc in sym z
-  operands_spans a (suc n) at k end e = after_spans a n at k end (walk a (at + k)) refl (λ m. turn_spans n at m end) e
+  operands_spans Zero at end e = let z : at + 1 ≡ end = cc in sym z
+  operands_spans (One a) at end e = behind a at 1 end e
+  operands_spans (Two a b) at end e =
+      let f = then_ends (walk a (at + 1)) e in
+      let m = 1 + operand (drop (8 * 1) (drop (8 * at) file)) in
+      let x : f.mid ≡ at + m = behind a at 1 f.mid f.first in
+      behind b at m end (rw x at f.rest)
 
-pub walk_span : (file : List ℕ) (vars levels want at end : ℕ) → walk_of file vars levels want at ≡ End end → end ≡ at + span levels (drop (8 * at) file)
+pub walk_span : (file : List ℕ) (vars levels : ℕ) (want : Sort) (at end : ℕ) → walk_of file vars levels want at ≡ Ok end → end ≡ at + span levels (drop (8 * at) file)
 walk_span file vars zero want at end e = absurd (walk_deepest file vars want at end e)
 walk_span file vars (suc levels) want at end e =
     let o = walk_opens file vars levels want at end e in
-    let s = signature_at file at in
     rw (span_opens {below = levels} refl (drop (8 * at) file) (kind_part file at))
-    (operands_spans file (walk_of file vars levels) (span levels) (walk_span file vars levels) s.second s.first s.operands at 1 end o.operands)
+    (operands_spans file (walk_of file vars levels) (span levels) (walk_span file vars levels) (signature_at file at).operands at end o.operands)

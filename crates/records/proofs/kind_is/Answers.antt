@@ -8,6 +8,6 @@ pub returns-then-at-file : goal.returns-then-at-file
 unfolding kind_is
 returns-then-at-file c = simp (lt-ltb _ _ c.if-at-file.true)
 
-pub returns : goal.returns
+pub returns-else-at-file : goal.returns-else-at-file
 unfolding kind_is
-returns c = simp (le-ltb _ _ c.if-at-file.false)
+returns-else-at-file c = simp (le-ltb _ _ c.if-at-file.false)

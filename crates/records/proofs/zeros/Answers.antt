@@ -1,23 +1,13 @@
--- `records::zeros` meets its contract. The loop's invariant: what is left to be tested says what the whole does, as each byte passed is zero.
+-- `records::zeros` meets its contract: it goes through the part of the file that the bytes are.
 -- Assumes nothing.
-use borrow.Author.Tests.{eq-eqb, ne_eqb}
-use mathlib.Core.Path.{refl, sym, ◌∙◌}
-use native.Mathlib.Omega.{arith}
-use Rattle.records.proofs.Steps.Record.{zeros_none, zeros_step}
+use borrow.Author.Tests.{tests}
+use Rattle.std.proofs.Common.{rules, ◌≡◌}
+use Rattle.std.proofs.lemmas.Iterator.{YieldsList-from_slice, cases_from_all}
+use Rattle.records.proofs.Steps.Record.{part, zeros_part}
 use Rattle.records.proofs.zeros.Goals as goal
 
-pub loop-left-init : goal.loop-left-init
-loop-left-init c = (refl, c.requires)
-
-pub returns-then-file-at-ne0 : goal.returns-then-file-at-ne0
-returns-then-file-at-ne0 c =
-    let l = c.loop-left in
-    sym (l.invariant.0 ∙ zeros_step _ _ _ c.loop-left-test.true ∙ simp (ne_eqb _ _ c.if-file-at-ne0.true))
-
-pub loop-left-preserved : goal.loop-left-preserved
-loop-left-preserved c =
-    let l = c.loop-left in
-    (l.invariant.0 ∙ zeros_step _ _ _ c.loop-left-test.true ∙ simp (eq-eqb _ _ c.if-file-at-ne0.false), omega arith)
-
 pub returns : goal.returns
-returns c = sym (c.loop-left.invariant.0 ∙ zeros_none _ _ _ c.loop-left-test.false)
+returns c =
+    zeros_part c.args.file.now c.args.from c.args.n c.requires _
+    (cases_from_all _ _ _ (λ x. x ≡ 0) (λ x. x ≡ 0 → ⊥) c.all.ensures.ran (YieldsList-from_slice (part c.args.file.now c.args.from c.args.n c.requires) cc)
+    (λ x q k. search (rules, tests)) (λ x q k. search (rules, tests)))

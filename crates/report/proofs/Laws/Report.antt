@@ -5,13 +5,14 @@
 --     set_pair_at      two neighbours of a list, set one after the other
 --     report_number    its first byte is the number, where it has room (C14.1)
 -- Assumes nothing.
-use mathlib.Core.Path.{◌≡◌, refl, sym, ap}
+use mathlib.Core.Path.{◌≡◌, refl, ap}
 use mathlib.Core.List.{List, [], ◌∷◌, ◌++◌}
 use Prim.Native.Nat.{ℕ, suc, ◌*◌, ◌≤◌, ◌<◌}
 use native.Mathlib.Omega.{arith}
 use borrow.Author.Tests.{lt-ltb, le-ltb}
 use lib.IntN.{ℤ}
 use lib.ListN.{length, drop, set, length-append, length-drop}
+use Rattle.std.proofs.lemmas.Slice.{drop-append-drop}
 use Rattle.report.specs.Report.{value_bytes, report_bytes, report_of}
 use Rattle.report.specs.declared.Verdict.{Verdict}
 
@@ -28,10 +29,6 @@ set_pair (z ∷ p) q x y a b = ap {B = List ℕ} (λ l. z ∷ l) (set_pair p q x
 pub set_pair_at : (p q : List ℕ) (x y a b n : ℕ) → length p ≡ n → set (set (p ++ x ∷ y ∷ q) n a) (suc n) b ≡ p ++ a ∷ b ∷ q
 set_pair_at p q x y a b n e = rw (← e) (set_pair p q x y a b)
 
-behind : (l m : List ℕ) (n : ℕ) → length l ≡ n → drop n (l ++ m) ≡ m
-behind [] m n e = rw (sym e) refl
-behind (x ∷ l) m n e = rw (sym e) (behind l m (length l) refl)
-
 module _ (v : Verdict) (report : List ℕ) where
   pub report_short : length report < 32 → report ≡ report_of v report
   unfolding report_of
@@ -47,4 +44,4 @@ module _ (v : Verdict) (report : List ℕ) where
   unfolding report_of report_bytes
   report_rest twelve l =
       let n : length (report_bytes v) ≡ 32 = omega (arith, value_bytes_lem v.values) in
-      rw (le-ltb _ _ l) (rw (length-append, length-drop) (omega arith), behind (report_bytes v) (drop 32 report) 32 n)
+      rw (le-ltb _ _ l) (rw (length-append, length-drop) (omega arith), drop-append-drop 32 report (report_bytes v) 32 (omega arith) n)

@@ -2,44 +2,35 @@
 -- Assumes nothing.
 use native.Mathlib.Omega.{arith}
 use borrow.Author.Rules.{rules}
-use Rattle.searching.proofs.Steps.Search.{positive, wide_asks, lower_is_part, upper_is_part, narrow_none, narrow_single, narrow_upper, narrow_lower}
+use Prim.Native.Nat.{ℕ, ◌<◌}
+use lib.IntN.{pos}
+use lib.ListN.{get_or}
+use lib.Signed.{◌<ℤ◌}
+use Rattle.searching.proofs.Steps.Search.{wide_asks, lower_is_part, upper_is_part}
 use Rattle.searching.proofs.+narrow.Goals as goal
+use Rattle.searching.proofs.+narrow.Goals.{Else-wide-ge12}
 
-pub returns-then-depth-eq0 : goal.returns-then-depth-eq0
-returns-then-depth-eq0 t c = narrow_none _ _ _ _ c.if-depth-eq0.true
+-- the box may be halved at its first wide variable
+halved : {t : ℕ} (c : Else-wide-ge12 t)
+    → (c.first_wide-wide.result < 12) × (get_or c.args.b.low c.first_wide-wide.result (pos 0) <ℤ get_or c.args.b.high c.first_wide-wide.result (pos 0))
+halved c = wide_asks _ (search rules) (search rules) c.first_wide-wide.ensures c.if-wide-ge12.false
 
-pub returns-then-wide-ge12 : goal.returns-then-wide-ge12
-returns-then-wide-ge12 t c = narrow_single _ _ _ _ (positive c.if-depth-eq0.false) c.first_wide-wide.ensures c.if-wide-ge12.true
+pub lower-half-requires-clause-wide : goal.lower-half-requires-clause-wide
+lower-half-requires-clause-wide t c = (halved (goal.at.lower-half-requires-clause-wide t c).Else-wide-ge12).1
 
-pub lower-half-requires : goal.lower-half-requires
-lower-half-requires t c =
-    let halved = wide_asks _ (search rules) (search rules) c.first_wide-wide.ensures c.if-wide-ge12.false in
-    record { variable = halved.0; wide = halved.1 }
+pub decide-found-requires-clause-part : goal.decide-found-requires-clause-part
+decide-found-requires-clause-part t c =
+    lower_is_part c.requires.part (halved (goal.at.decide-found-requires-clause-part t c).Else-wide-ge12) c.lower-half.ensures
 
-pub decide-found-requires : goal.decide-found-requires
-decide-found-requires t c =
-    let halved = wide_asks _ (search rules) (search rules) c.first_wide-wide.ensures c.if-wide-ge12.false in
-    record { spans = c.requires.spans; fits = c.requires.fits; part = lower_is_part c.requires.part halved c.lower-half.ensures }
-
-pub upper-requires : goal.upper-requires
-upper-requires t c =
-    let halved = wide_asks _ (search rules) (search rules) c.first_wide-wide.ensures c.if-wide-ge12.false in
-    record { variable = halved.0; wide = halved.1 }
+pub upper-requires-clause-wide : goal.upper-requires-clause-wide
+upper-requires-clause-wide t c = (halved (goal.at.upper-requires-clause-wide t c).Else-wide-ge12).1
 
 pub narrow-requires : goal.narrow-requires
 narrow-requires t c =
-    let halved = wide_asks _ (search rules) (search rules) c.first_wide-wide.ensures c.if-wide-ge12.false in
-    (omega (arith, c.if-depth-eq0.false, c.decreases), (c.requires.spans, (c.requires.fits, upper_is_part c.requires.part halved c.upper.ensures)))
-
-pub returns-then-found : goal.returns-then-found
-returns-then-found t c =
-    narrow_upper _ _ _ _ (positive c.if-depth-eq0.false) c.first_wide-wide.ensures c.if-wide-ge12.false c.lower-half.ensures c.decide-found.ensures c.if-found.true c.upper.ensures c.narrow.ensures
+    let p = c.requires in
+    (omega (arith, c.decreases), (p.spans, (p.fits, upper_is_part p.part (halved (goal.at.narrow-requires t c).Else-wide-ge12) c.upper.ensures)))
 
 pub narrow-requires-2 : goal.narrow-requires-2
 narrow-requires-2 t c =
-    let halved = wide_asks _ (search rules) (search rules) c.first_wide-wide.ensures c.if-wide-ge12.false in
-    (omega (arith, c.if-depth-eq0.false, c.decreases), (c.requires.spans, (c.requires.fits, lower_is_part c.requires.part halved c.lower-half.ensures)))
-
-pub returns : goal.returns
-returns t c =
-    narrow_lower _ _ _ _ (positive c.if-depth-eq0.false) c.first_wide-wide.ensures c.if-wide-ge12.false c.lower-half.ensures c.decide-found.ensures c.if-found.false c.narrow-2.ensures
+    let p = c.requires in
+    (omega (arith, c.decreases), (p.spans, (p.fits, lower_is_part p.part (halved (goal.at.narrow-requires-2 t c).Else-wide-ge12) c.lower-half.ensures)))

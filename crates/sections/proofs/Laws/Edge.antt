@@ -12,12 +12,11 @@ use native.Mathlib.Omega.{arith}
 use borrow.Author.Tests.{ltb-true}
 use lib.ListN.{get_or}
 use lib.Dec.{ltb, leb}
+use Rattle.std.specs.declared.result.Result.TheVariants.{Ok}
 use Rattle.truths.proofs.Laws.Any.{any_false}
-use Rattle.records.specs.declared.walk.Walked.TheVariants.{End}
 use Rattle.records.specs.Record.{field_a, field_b, field_c, field_d, zeros_of, same_bytes}
 use Rattle.records.proofs.Laws.Record.{bytes_none, bytes_next, word_bytes}
-use Rattle.sections.specs.declared.Section.TheVariants.{Items}
-use Rattle.sections.specs.Section.{edge_fields, edge_at, repeated_of, edge_of, edges_of}
+use Rattle.sections.specs.Section.{items, edge_fields, edge_at, repeated_of, edge_of, edges_of}
 use Rattle.sections.proofs.Laws.Section.{single_nth, edge_opens}
 
 module _ (file : List ℕ) where
@@ -48,8 +47,8 @@ module _ (file : List ℕ) where
         false≢true (sym apart ∙ next 1 4 a nodes)
 
 -- ---- the edges of a section that was counted
-module _ (file : List ℕ) (transitions nodes first m end : ℕ) (is : edges_of file transitions nodes first ≡ Items m end) where
-  edge_both : (e : ℕ) → e < m → (edge_fields file transitions nodes (first + e) ≡ true) × (edge_of file first (first + e) ≡ End (first + e + 1))
+module _ (file : List ℕ) (transitions nodes first m end : ℕ) (is : edges_of file transitions nodes first ≡ Ok (items m end)) where
+  edge_both : (e : ℕ) → e < m → (edge_fields file transitions nodes (first + e) ≡ true) × (edge_of file first (first + e) ≡ Ok (first + e + 1))
   unfolding edges_of
   edge_both = single_nth _ _ _ (edge_of file first) (λ i x q. (edge_opens file first i x q).1) _ _ 512 _ is
 

@@ -26,15 +26,17 @@ use lib.ListN.{length, get_or, set, replicate}
 use borrow.Author.Tests.{ltb-true, leb-true, eqb-true}
 use lib.Dec.{ltb, leb, eqb}
 use lib.Signed.{le_z, ◌≤ℤ◌}
+use Rattle.std.specs.declared.result.Result.TheVariants.{Ok, Err}
+use Rattle.std.specs.declared.result.Result.{Result}
+use Rattle.shapes.specs.declared.Refusal.{Refusal}
+use Rattle.shapes.specs.Refusal.{and_then}
 use Rattle.truths.proofs.Laws.Truth.{by-test, or_cases}
 use Rattle.integers.proofs.Laws.Parts.{ints}
-use Rattle.records.specs.declared.walk.Walked.{Walked}
-use Rattle.records.specs.declared.walk.Walked.TheVariants.{End, Refused}
 use Rattle.sections.specs.declared.Section.{Section}
 use Rattle.records.specs.Record.{field_a, value_b, value_c, kind_is, zeros_of}
 use Rattle.records.specs.Kind.{number, truth}
-use Rattle.records.specs.Walk.{and_then, in_sequence, walk_of, truth_of}
-use Rattle.sections.specs.Section.{transition_fields, assignment_fields, pick_fields, items_of, is_update, update_fields, update_of, updates_of}
+use Rattle.records.specs.Walk.{Walked, in_sequence, walk_of, truth_of}
+use Rattle.sections.specs.Section.{items, transition_fields, assignment_fields, pick_fields, items_of, is_update, update_fields, update_of, updates_of}
 use Rattle.sections.specs.Section.{transition_of, node_of, repeated_of, edge_of}
 use Rattle.records.proofs.Laws.Record.{kind_is_lem}
 use Rattle.records.proofs.Laws.Walk.{First, then_ends, walk_bound, sequence_induct, sequence_bound, sequence_none, sequence_next}
@@ -43,24 +45,28 @@ use Rattle.records.proofs.Laws.Walk.{First, then_ends, walk_bound, sequence_indu
 module _ (file : List ℕ) (kind : ℕ) (fields : ℕ → Bool) (item : ℕ → Walked) where
   -- from `at` on, with n items before it and at most `left` more, the section has m items in all and ends at `end`
   abbrev Counted : ℕ → ℕ → ℕ → ℕ → ℕ → Type 0
-  Counted m end left n at = items_of file kind fields item left n at ≡ Section.Items m end
+  Counted m end left n at = items_of file kind fields item left n at ≡ Ok (items m end)
 
   -- by induction over the items: Q is shown behind the last item, and carried back past each item that passed its tests
   module _ (m end : ℕ) (Q : ℕ → ℕ → ℕ → Type 0) (base : (left : ℕ) → Q left m end)
-      (back : (left n at x : ℕ) → kind_is file kind at ≡ true → fields at ≡ true → item at ≡ End x → Q left (n + 1) x → Q (suc left) n at) where
-    item_none : (left n at : ℕ) → Section.Items n at ≡ Section.Items m end → Q left n at
-    item_none left n at e = let x : n ≡ m = cc in let y : at ≡ end = cc in rw (x, y) (base left)
+      (back : (left n at x : ℕ) → kind_is file kind at ≡ true → fields at ≡ true → item at ≡ Ok x → Q left (n + 1) x → Q (suc left) n at) where
+    item_none : (left n at : ℕ) → ◌≡◌ {A = Result Section Refusal} (Ok (items n at)) (Ok (items m end)) → Q left n at
+    item_none left n at e =
+        let s : items n at ≡ items m end = cc in
+        let x : n ≡ m = ap (λ (i : Section). i.count) s in
+        let y : at ≡ end = ap (λ (i : Section). i.end) s in
+        rw (x, y) (base left)
 
-    item_over : (n at : ℕ) (k f : Bool) → cond k (cond f (Section.Refused 5 at) (Section.Refused 4 at)) (Section.Items n at) ≡ Section.Items m end → Q zero n at
+    item_over : (n at : ℕ) (k f : Bool) → cond k (cond f (Err (Refusal.Limit at)) (Err (Refusal.Field at))) (Ok (items n at)) ≡ Ok (items m end) → Q zero n at
     item_over n at true true e = let z : ◌≡◌ {A = ℕ} 0 1 = cc in absurd (omega arith)
     item_over n at true false e = let z : ◌≡◌ {A = ℕ} 0 1 = cc in absurd (omega arith)
     item_over n at false f e = item_none zero n at e
 
-    item_back : (left n at : ℕ) (rest : ℕ → Section) → ((x : ℕ) → rest x ≡ Section.Items m end → Q left (n + 1) x)
+    item_back : (left n at : ℕ) (rest : ℕ → Result Section Refusal) → ((x : ℕ) → rest x ≡ Ok (items m end) → Q left (n + 1) x)
         → (k f : Bool) (w : Walked) → kind_is file kind at ≡ k → fields at ≡ f → item at ≡ w
-        → cond k (cond f (and_then Section.Refused w rest) (Section.Refused 4 at)) (Section.Items n at) ≡ Section.Items m end → Q (suc left) n at
-    item_back left n at rest h true true (Walked.End x) k f w e = back left n at x k f w (h x e)
-    item_back left n at rest h true true (Walked.Refused number place) k f w e = let z : ◌≡◌ {A = ℕ} 0 1 = cc in absurd (omega arith)
+        → cond k (cond f (and_then w rest) (Err (Refusal.Field at))) (Ok (items n at)) ≡ Ok (items m end) → Q (suc left) n at
+    item_back left n at rest h true true (Ok x) k f w e = back left n at x k f w (h x e)
+    item_back left n at rest h true true (Err refusal) k f w e = let z : ◌≡◌ {A = ℕ} 0 1 = cc in absurd (omega arith)
     item_back left n at rest h true false w k f is e = let z : ◌≡◌ {A = ℕ} 0 1 = cc in absurd (omega arith)
     item_back left n at rest h false f w k is it e = item_none (suc left) n at e
 
@@ -75,26 +81,26 @@ module _ (file : List ℕ) (kind : ℕ) (fields : ℕ → Bool) (item : ℕ → 
   items_most m end = items_induct m end (λ left n at. m ≤ n + left) (λ left. omega arith) (λ left n at x k f w h. omega arith)
 
   -- items of one record each
-  pub items_single : ((i e : ℕ) → item i ≡ End e → e ≡ i + 1) → (m end left n at : ℕ) → Counted m end left n at → end + n ≡ at + m
+  pub items_single : ((i e : ℕ) → item i ≡ Ok e → e ≡ i + 1) → (m end left n at : ℕ) → Counted m end left n at → end + n ≡ at + m
   items_single single m end =
       items_induct m end (λ left n at. end + n ≡ at + m) (λ left. refl) (λ left n at x k f w h. let z = single at x w in omega arith)
 
-  module _ (P : ℕ → Type 0) (step : (i x : ℕ) → kind_is file kind i ≡ true → item i ≡ End x → P i → P x) where
+  module _ (P : ℕ → Type 0) (step : (i x : ℕ) → kind_is file kind i ≡ true → item i ≡ Ok x → P i → P x) where
     -- the item that i others lie before, from `at` on
     pub record Reached (i at : ℕ) : Type 0 where
       pub place : ℕ
       pub end : ℕ
-      pub reached : in_sequence item i at ≡ End place
+      pub reached : in_sequence item i at ≡ Ok place
       pub named : kind_is file kind place ≡ true
       pub right : fields place ≡ true
-      pub ends : item place ≡ End end
+      pub ends : item place ≡ Ok end
       pub holds : P place
 
     module _ (m end : ℕ) where
       pub items_through : (left n at : ℕ) → Counted m end left n at → P at → P end
       items_through = items_induct m end (λ left n at. P at → P end) (λ left p. p) (λ left n at x k f w h p. h (step at x k w p))
 
-      reach_back : (n at x : ℕ) → kind_is file kind at ≡ true → fields at ≡ true → item at ≡ End x → (P x → (i : ℕ) → n + 1 + i < m → Reached i x)
+      reach_back : (n at x : ℕ) → kind_is file kind at ≡ true → fields at ≡ true → item at ≡ Ok x → (P x → (i : ℕ) → n + 1 + i < m → Reached i x)
           → P at → (i : ℕ) → n + i < m → Reached i at
       reach_back n at x k f w h p zero l = record { place = at; end = x; reached = sequence_none item at; named = k; right = f; ends = w; holds = p }
       reach_back n at x k f w h p (suc i) l =
@@ -108,24 +114,24 @@ module _ (file : List ℕ) (kind : ℕ) (fields : ℕ → Bool) (item : ℕ → 
           (λ left n at x k f w h. reach_back n at x k f w h)
 
 -- ---- parts in sequence, with what holds where each begins
-module _ (part : ℕ → Walked) (P : ℕ → Type 0) (step : (i x : ℕ) → part i ≡ End x → P i → P x) (end : ℕ) where
+module _ (part : ℕ → Walked) (P : ℕ → Type 0) (step : (i x : ℕ) → part i ≡ Ok x → P i → P x) (end : ℕ) where
   pub record Part (i at : ℕ) : Type 0 where
     pub place : ℕ
     pub behind : ℕ
-    pub reached : in_sequence part i at ≡ End place
-    pub ends : part place ≡ End behind
+    pub reached : in_sequence part i at ≡ Ok place
+    pub ends : part place ≡ Ok behind
     pub holds : P place
 
-  pub sequence_through : (n at : ℕ) → in_sequence part n at ≡ End end → P at → P end
+  pub sequence_through : (n at : ℕ) → in_sequence part n at ≡ Ok end → P at → P end
   sequence_through = sequence_induct part end (λ n at. P at → P end) (λ p. p) (λ n at x is h p. h (step at x is p))
 
-  part_back : (n at x : ℕ) → part at ≡ End x → (P x → (i : ℕ) → i < n → Part i x) → P at → (i : ℕ) → i < suc n → Part i at
+  part_back : (n at x : ℕ) → part at ≡ Ok x → (P x → (i : ℕ) → i < n → Part i x) → P at → (i : ℕ) → i < suc n → Part i at
   part_back n at x is h p zero l = record { place = at; behind = x; reached = sequence_none part at; ends = is; holds = p }
   part_back n at x is h p (suc i) l =
       let r = h (step at x is p) i (omega arith) in
       record { place = r.place; behind = r.behind; reached = sequence_next part i at x is ∙ r.reached; ends = r.ends; holds = r.holds }
 
-  pub sequence_reach : (n at : ℕ) → in_sequence part n at ≡ End end → P at → (i : ℕ) → i < n → Part i at
+  pub sequence_reach : (n at : ℕ) → in_sequence part n at ≡ Ok end → P at → (i : ℕ) → i < n → Part i at
   sequence_reach = sequence_induct part end (λ n at. P at → (i : ℕ) → i < n → Part i at) (λ p i l. absurd (omega arith)) part_back
 
 -- ---- transitions
@@ -172,11 +178,11 @@ module _ (file : List ℕ) (vars at : ℕ) where
       (λ k e. (pick_right file vars at e).named) (λ k e. assignment_named file vars at e)
 
   -- a pick is one record; an assignment ends behind its value
-  pub pick_one : kind_is file 0x08 at ≡ true → update_of file vars at ≡ End (at + 1)
+  pub pick_one : kind_is file 0x08 at ≡ true → update_of file vars at ≡ Ok (at + 1)
   unfolding update_of
   pick_one k = rw k
 
-  pub pick_ends : {end : ℕ} → kind_is file 0x08 at ≡ true → update_of file vars at ≡ End end → end ≡ at + 1
+  pub pick_ends : {end : ℕ} → kind_is file 0x08 at ≡ true → update_of file vars at ≡ Ok end → end ≡ at + 1
   pick_ends k e = let z = pick_one k in cc
 
   pub assignment_ends : {w : Walked} → kind_is file 0x08 at ≡ false → update_of file vars at ≡ w → walk_of file vars 16 number (at + 1) ≡ w
@@ -188,7 +194,7 @@ module _ (file : List ℕ) (vars at : ℕ) where
   unfolding is_update
   update_assigns u k = ⊎_elim (λ e. e) (λ e. absurd (false≢true (sym k ∙ e))) (or_cases (kind_is file 0x04 at) (kind_is file 0x08 at) u)
 
-  pub update_bound : is_update file at ≡ true → (end : ℕ) → update_of file vars at ≡ End end → (at < end) × (end ≤ length file / 8)
+  pub update_bound : is_update file at ≡ true → (end : ℕ) → update_of file vars at ≡ Ok end → (at < end) × (end ≤ length file / 8)
   update_bound u end e =
       by-test (kind_is file 0x08 at) (λ b. (at < end) × (end ≤ length file / 8))
       (λ k. omega (arith, pick_ends k e, update_here file at u))
@@ -198,27 +204,27 @@ module _ (file : List ℕ) (vars end : ℕ) where
   -- by induction over the updates, with the marks of the variables set before: Q is shown behind the last, and carried back past each
   module _ (Q : List ℕ → ℕ → Type 0) (base : (marks : List ℕ) → is_update file end ≡ false → Q marks end)
       (back : (marks : List ℕ) (at x : ℕ) → is_update file at ≡ true → update_fields file vars at ≡ true → get_or marks (field_a file at) 0 ≡ 0
-      → update_of file vars at ≡ End x → Q (set marks (field_a file at) 1) x → Q marks at) where
-    update_none : (marks : List ℕ) (at : ℕ) → is_update file at ≡ false → End at ≡ End end → Q marks at
+      → update_of file vars at ≡ Ok x → Q (set marks (field_a file at) 1) x → Q marks at) where
+    update_none : (marks : List ℕ) (at : ℕ) → is_update file at ≡ false → ◌≡◌ {A = Walked} (Ok at) (Ok end) → Q marks at
     update_none marks at k e = let z : at ≡ end = cc in rw z (base marks (rw z at k))
 
-    update_over : (marks : List ℕ) (at : ℕ) (k f : Bool) → is_update file at ≡ k → cond k (cond f (Refused 6 at) (Refused 4 at)) (End at) ≡ End end
+    update_over : (marks : List ℕ) (at : ℕ) (k f : Bool) → is_update file at ≡ k → cond k (cond f (Err (Refusal.Repetition at)) (Err (Refusal.Field at))) (Ok at) ≡ Ok end
         → Q marks at
     update_over marks at true true k e = let z : ◌≡◌ {A = ℕ} 0 1 = cc in absurd (omega arith)
     update_over marks at true false k e = let z : ◌≡◌ {A = ℕ} 0 1 = cc in absurd (omega arith)
     update_over marks at false f k e = update_none marks at k e
 
-    update_back : (marks : List ℕ) (at : ℕ) (next : ℕ → Walked) → ((x : ℕ) → next x ≡ End end → Q (set marks (field_a file at) 1) x)
+    update_back : (marks : List ℕ) (at : ℕ) (next : ℕ → Walked) → ((x : ℕ) → next x ≡ Ok end → Q (set marks (field_a file at) 1) x)
         → (k f d : Bool) (w : Walked) → is_update file at ≡ k → update_fields file vars at ≡ f → eqb (get_or marks (field_a file at) 0) 0 ≡ d
         → update_of file vars at ≡ w
-        → cond k (cond f (cond d (and_then Refused w next) (Refused 6 at)) (Refused 4 at)) (End at) ≡ End end → Q marks at
-    update_back marks at next h true true true (Walked.End x) k f d w e = back marks at x k f (eqb-true _ _ d) w (h x e)
-    update_back marks at next h true true true (Walked.Refused n q) k f d w e = let z : ◌≡◌ {A = ℕ} 0 1 = cc in absurd (omega arith)
+        → cond k (cond f (cond d (and_then w next) (Err (Refusal.Repetition at))) (Err (Refusal.Field at))) (Ok at) ≡ Ok end → Q marks at
+    update_back marks at next h true true true (Ok x) k f d w e = back marks at x k f (eqb-true _ _ d) w (h x e)
+    update_back marks at next h true true true (Err r) k f d w e = let z : ◌≡◌ {A = ℕ} 0 1 = cc in absurd (omega arith)
     update_back marks at next h true true false w k f d is e = let z : ◌≡◌ {A = ℕ} 0 1 = cc in absurd (omega arith)
     update_back marks at next h true false d w k f is it e = let z : ◌≡◌ {A = ℕ} 0 1 = cc in absurd (omega arith)
     update_back marks at next h false f d w k is it so e = update_none marks at k e
 
-    pub updates_induct : (left : ℕ) (marks : List ℕ) (at : ℕ) → updates_of file vars left marks at ≡ End end → Q marks at
+    pub updates_induct : (left : ℕ) (marks : List ℕ) (at : ℕ) → updates_of file vars left marks at ≡ Ok end → Q marks at
     unfolding updates_of
     updates_induct zero marks at e = update_over marks at (is_update file at) (update_fields file vars at) refl e
     updates_induct (suc left) marks at e =
@@ -227,22 +233,22 @@ module _ (file : List ℕ) (vars end : ℕ) where
         (is_update file at) (update_fields file vars at) (eqb (get_or marks a 0) 0) (update_of file vars at) refl refl refl refl e
 
   -- what is carried past each update is carried past all
-  pub updates_through : (P : ℕ → Type 0) → ((i x : ℕ) → is_update file i ≡ true → update_of file vars i ≡ End x → P i → P x)
-      → (left : ℕ) (marks : List ℕ) (at : ℕ) → updates_of file vars left marks at ≡ End end → P at → P end
+  pub updates_through : (P : ℕ → Type 0) → ((i x : ℕ) → is_update file i ≡ true → update_of file vars i ≡ Ok x → P i → P x)
+      → (left : ℕ) (marks : List ℕ) (at : ℕ) → updates_of file vars left marks at ≡ Ok end → P at → P end
   updates_through P step =
       updates_induct (λ marks at. P at → P end) (λ marks k p. p) (λ marks at x k f d w h p. h (step at x k w p))
 
   -- a transition: where its guard ends, and its updates from there on
   pub record Guarded (at : ℕ) : Type 0 where
     pub place : ℕ
-    pub guard : walk_of file vars 16 truth (at + 1) ≡ End place
-    pub updates : updates_of file vars 12 (replicate 12 0) place ≡ End end
+    pub guard : walk_of file vars 16 truth (at + 1) ≡ Ok place
+    pub updates : updates_of file vars 12 (replicate 12 0) place ≡ Ok end
 
-  pub transition_opens : (at : ℕ) → transition_of file vars at ≡ End end → Guarded at
+  pub transition_opens : (at : ℕ) → transition_of file vars at ≡ Ok end → Guarded at
   unfolding transition_of
   transition_opens at e = let g = then_ends (walk_of file vars 16 truth (at + 1)) e in record { place = g.mid; guard = g.first; updates = g.rest }
 
-  pub transition_bound : (at : ℕ) → transition_of file vars at ≡ End end → (at < end) × (end ≤ length file / 8)
+  pub transition_bound : (at : ℕ) → transition_of file vars at ≡ Ok end → (at < end) × (end ≤ length file / 8)
   transition_bound at e =
       let t = transition_opens at e in
       let b = walk_bound file vars 16 truth (at + 1) t.place t.guard in
@@ -250,14 +256,14 @@ module _ (file : List ℕ) (vars end : ℕ) where
       (λ i x k w p. omega (arith, update_bound file vars i k x w)) 12 (replicate 12 0) t.place t.updates (omega arith)
 
 -- behind t transitions in turn
-pub transitions_bound : (file : List ℕ) (vars t first end : ℕ) → first ≤ length file / 8 → in_sequence (transition_of file vars) t first ≡ End end
+pub transitions_bound : (file : List ℕ) (vars t first end : ℕ) → first ≤ length file / 8 → in_sequence (transition_of file vars) t first ≡ Ok end
     → end ≤ length file / 8
 transitions_bound file vars t first end l e =
     (sequence_bound (transition_of file vars) (length file / 8) (λ i x. transition_bound file vars x i) t first end l e).1
 
 -- ---- a node: where its assertion ends, and its ranks from there on
-module _ (file : List ℕ) (vars ranks at end : ℕ) (e : node_of file vars ranks at ≡ End end) where
-  pub node_opens : First (truth_of file vars (at + 1)) (in_sequence (walk_of file vars 16 number) ranks) (End end)
+module _ (file : List ℕ) (vars ranks at end : ℕ) (e : node_of file vars ranks at ≡ Ok end) where
+  pub node_opens : First (truth_of file vars (at + 1)) (in_sequence (walk_of file vars 16 number) ranks) (Ok end)
   node_opens = then_ends (truth_of file vars (at + 1)) e
 
   pub node_bound : (at < end) × (end ≤ length file / 8)
@@ -268,22 +274,22 @@ module _ (file : List ℕ) (vars ranks at end : ℕ) (e : node_of file vars rank
       omega arith
 
 -- ---- an item of one record that passed its test
-module _ (file : List ℕ) (kind : ℕ) (fields : ℕ → Bool) (item : ℕ → Walked) (single : (i e : ℕ) → item i ≡ End e → e ≡ i + 1) where
-  sequence_single : (end n at : ℕ) → in_sequence item n at ≡ End end → end ≡ at + n
+module _ (file : List ℕ) (kind : ℕ) (fields : ℕ → Bool) (item : ℕ → Walked) (single : (i e : ℕ) → item i ≡ Ok e → e ≡ i + 1) where
+  sequence_single : (end n at : ℕ) → in_sequence item n at ≡ Ok end → end ≡ at + n
   sequence_single end = sequence_induct item end (λ n at. end ≡ at + n) (omega arith) (λ n at x is h. let b = single at x is in omega arith)
 
-  pub single_nth : (m end left at : ℕ) → items_of file kind fields item left 0 at ≡ Section.Items m end → (i : ℕ) → i < m
-      → (fields (at + i) ≡ true) × (item (at + i) ≡ End (at + i + 1))
+  pub single_nth : (m end left at : ℕ) → items_of file kind fields item left 0 at ≡ Ok (items m end) → (i : ℕ) → i < m
+      → (fields (at + i) ≡ true) × (item (at + i) ≡ Ok (at + i + 1))
   single_nth m end left at e i l =
       let n = items_reach file kind fields item (λ x. Unit {0}) (λ x y k w u. tt) m end left 0 at e tt i (omega arith) in
       let z = sequence_single n.place i at n.reached in
       let y = single n.place n.end n.ends in
-      (subst (λ (x : ℕ). fields x ≡ true) z n.right, subst (λ (x : ℕ). item x ≡ End (x + 1)) z (n.ends ∙ ap End y))
+      (subst (λ (x : ℕ). fields x ≡ true) z n.right, subst (λ (x : ℕ). item x ≡ Ok (x + 1)) z (n.ends ∙ ap Ok y))
 
 -- an edge that is read repeats none, and is one record
-pub edge_opens : (file : List ℕ) (first at end : ℕ) → edge_of file first at ≡ End end → (repeated_of file at first (at - first) ≡ false) × (end ≡ at + 1)
+pub edge_opens : (file : List ℕ) (first at end : ℕ) → edge_of file first at ≡ Ok end → (repeated_of file at first (at - first) ≡ false) × (end ≡ at + 1)
 edge_opens file first at end = unrepeated (repeated_of file at first (at - first))
   where
-    unrepeated : (b : Bool) → cond b (Refused 6 at) (End (at + 1)) ≡ End end → (b ≡ false) × (end ≡ at + 1)
+    unrepeated : (b : Bool) → cond b (Err (Refusal.Repetition at)) (Ok (at + 1)) ≡ Ok end → (b ≡ false) × (end ≡ at + 1)
     unrepeated true e = let z : ◌≡◌ {A = ℕ} 0 1 = cc in absurd (omega arith)
     unrepeated false e = (refl, cc)

@@ -1,133 +1,109 @@
 -- One turn of a section's loop: what all of the section is, by the code's tests of the next record in their order.
 -- Assumes nothing.
-use mathlib.Core.Path.{◌≡◌, refl, sym, ap, ◌∙◌}
-use mathlib.Core.Bool.{Bool, true, false, not}
+use mathlib.Core.Path.{◌≡◌, refl, sym}
+use mathlib.Core.Bool.{Bool, true, false}
 use mathlib.Core.List.{List}
-use Prim.Native.Nat.{ℕ, zero, suc, ◌+◌, ◌-◌, ◌/◌, ◌<◌, ◌≤◌}
+use Prim.Native.Nat.{ℕ, zero, suc, ◌+◌, ◌-◌, ◌<◌}
 use native.Mathlib.Numerals.{sub-one}
 use native.Mathlib.Omega.{arith}
 use borrow.Author.Tests.{eq-eqb, ne_eqb}
 use lib.ListN.{length, get_or, set}
-use Rattle.records.specs.declared.walk.Walked.{Walked}
-use Rattle.sections.specs.declared.Section.{Section}
-use Rattle.sections.specs.declared.Item.{Item}
-use Rattle.sections.specs.declared.Item.TheVariants.{Variable, Transition, Node, Edge}
+use Rattle.std.specs.Bool.{MatchBool}
+use Rattle.std.specs.List.{range_with_len, AllWithin, HoldsAt}
+use Rattle.std.proofs.lemmas.List.FromFn.{length-range_with_len, get_or-range_with_len}
+use Rattle.std.specs.declared.result.Result.TheVariants.{Ok, Err}
+use Rattle.shapes.specs.declared.Refusal.{Refusal}
+use Rattle.records.specs.Walk.{Walked}
 use Rattle.records.specs.Record.{field_a, kind_is}
-use Rattle.shapes.specs.declared.Claim.{Claim}
-use Rattle.shapes.specs.declared.Property.{Property}
-use Rattle.shapes.specs.Property.{property_of}
-use Rattle.sections.specs.Section.{phases_fit, items_of, is_update, update_fields, update_of, updates_of}
-use Rattle.sections.specs.Item.{item_of, Walkable}
-use Rattle.truths.proofs.Laws.Answer.{if_taken, if_left, unless_taken, unless_left}
-use Rattle.records.proofs.Laws.Record.{kind_is_lem}
-use Rattle.sections.proofs.Laws.Section.{update_here, update_named, transition_bound, node_bound, edge_opens}
+use Rattle.sections.specs.Section.{items, items_of, is_update, update_fields, update_of, updates_of}
+use Rattle.truths.specs.Search.{any}
+use Rattle.truths.proofs.Laws.Any.{any_at, none_passes}
 
--- where a call finds the record to be of its kind, it is in the file
-pub found_here : (file : List ℕ) (kind at : ℕ) {named : Bool} → named ≡ kind_is file kind at → named ≡ true → at < length file / 8
-found_here file kind at k t = (kind_is_lem file kind at (if_taken k t)).0
+-- ---- edges
+-- an iterator over n numbers in a row finds one that passes where one of them does
+module _ (test : ℕ → Bool) (first n : ℕ) where
+  at_nth : (k : ℕ) → k < length (range_with_len first n) → (k < n) × (get_or (range_with_len first n) k 0 ≡ first + k)
+  at_nth k l = let z : k < n = omega (arith, length-range_with_len first n) in (z, get_or-range_with_len first n k 0 z)
 
--- ---- the property
-pub row_is : {c d : Claim} {p : Property} → p ≡ property_of c → c ≡ d → p ≡ property_of d
-row_is e f = e ∙ ap property_of f
-
-pub phases_are : {a b : ℕ} {p q : Property} {fit : Bool} → p ≡ q → a ≡ b → fit ≡ phases_fit p.phased a → fit ≡ phases_fit q.phased b
-phases_are e f is = is ∙ rw (e, f) refl
+  pub any_found : (b : Bool) → let all = range_with_len first n in
+      MatchBool b ((k : ℕ) × (k < length all) × HoldsAt (λ i. test i ≡ true) all k) (AllWithin (λ i. test i ≡ false) all 0 (length all))
+      → b ≡ any test n first
+  any_found true some =
+      let here = at_nth some.0 some.1 in
+      sym (any_at test n first some.0 here.0 (rw here.1 at (some.2 0)))
+  any_found false none =
+      sym (none_passes test n first
+      (λ k l m.
+      let below : k - first < n = omega arith in
+      let nth : first + (k - first) ≡ k = omega arith in
+      let each : test (get_or (range_with_len first n) (k - first) 0) ≡ false =
+      none (k - first) 0 (omega arith) (rw length-range_with_len below) in
+      rw (get_or-range_with_len first n (k - first) 0 below, nth) at each))
 
 -- ---- items: n lie before `at`, and at most `left` more may follow
-module _ (file : List ℕ) (kind : ℕ) (fields : ℕ → Bool) (item : ℕ → Walked) where
-  module _ {all : Section} (n at : ℕ) {named : Bool} (k : named ≡ kind_is file kind at) where
-    pub items_stop : (left : ℕ) → all ≡ items_of file kind fields item left n at → named ≡ false → Section.Items n at ≡ all
+module _ (file : List ℕ) (kind : ℕ) (fields : ℕ → Bool) (item : ℕ → Walked) (n at : ℕ) where
+  pub items_stop : kind_is file kind at ≡ false → (left : ℕ) → items_of file kind fields item left n at ≡ Ok (items n at)
+  unfolding items_of
+  items_stop k zero = rw k
+  items_stop k (suc left) = rw k
+
+  module _ (named : kind_is file kind at ≡ true) where
+    pub items_field : fields at ≡ false → (left : ℕ) → items_of file kind fields item left n at ≡ Err (Refusal.Field at)
     unfolding items_of
-    items_stop zero inv t = sym (inv ∙ rw (if_left k t))
-    items_stop (suc left) inv t = sym (inv ∙ rw (if_left k t))
+    items_field f zero = rw (named, f)
+    items_field f (suc left) = rw (named, f)
 
-    module _ (t : named ≡ true) {right : Bool} (f : right ≡ fields at) where
-      pub items_field : (left : ℕ) → all ≡ items_of file kind fields item left n at → not right ≡ true → Section.Refused 4 at ≡ all
+    module _ (right : fields at ≡ true) where
+      pub items_over : (left : ℕ) → left ≡ 0 → items_of file kind fields item left n at ≡ Err (Refusal.Limit at)
       unfolding items_of
-      items_field zero inv r = sym (inv ∙ rw (if_taken k t, unless_taken f r))
-      items_field (suc left) inv r = sym (inv ∙ rw (if_taken k t, unless_taken f r))
+      items_over left h = rw (h, named, right)
 
-      module _ (r : not right ≡ false) where
-        pub items_over : (left : ℕ) → all ≡ items_of file kind fields item left n at → left ≡ 0 → Section.Refused 5 at ≡ all
-        unfolding items_of
-        items_over zero inv h = sym (inv ∙ rw (if_taken k t, unless_left f r))
-        items_over (suc left) inv h = absurd (omega arith)
+      pub items_ends : (left rest end : ℕ) → left ≡ suc rest → item at ≡ Ok end
+          → items_of file kind fields item left n at ≡ items_of file kind fields item rest (n + 1) end
+      unfolding items_of
+      items_ends left rest end h e = rw (h, named, right, e)
 
-        module _ {found : Walked} (w : found ≡ item at) where
-          pub items_ends : (left end : ℕ) → all ≡ items_of file kind fields item left n at → (left ≡ 0 → ⊥) → found ≡ Walked.End end
-              → all ≡ items_of file kind fields item (left - 1) (n + 1) end
-          unfolding items_of
-          items_ends zero end inv h e = absurd (h refl)
-          items_ends (suc left) end inv h e = inv ∙ rw (if_taken k t, unless_left f r, sym w ∙ e, sub-one)
+      pub items_refused : (left : ℕ) (refusal : Refusal) → (left ≡ 0 → ⊥) → item at ≡ Err refusal
+          → items_of file kind fields item left n at ≡ Err refusal
+      unfolding items_of
+      items_refused zero refusal h e = absurd (h refl)
+      items_refused (suc left) refusal h e = rw (named, right, e)
 
-          pub items_refused : (left : ℕ) {number place : ℕ} → all ≡ items_of file kind fields item left n at → (left ≡ 0 → ⊥)
-              → found ≡ Walked.Refused number place → Section.Refused number place ≡ all
-          unfolding items_of
-          items_refused zero inv h e = absurd (h refl)
-          items_refused (suc left) inv h e = sym (inv ∙ rw (if_taken k t, unless_left f r, sym w ∙ e))
+-- ---- updates: at most `left` more may follow, and `marks` has 1 at each variable that was set
+module _ (file : List ℕ) (vars : ℕ) (marks : List ℕ) (at : ℕ) where
+  pub updates_stop : is_update file at ≡ false → (left : ℕ) → updates_of file vars left marks at ≡ Ok at
+  unfolding updates_of
+  updates_stop k zero = rw k
+  updates_stop k (suc left) = rw k
 
--- ---- an item by itself
-module _ (file : List ℕ) where
-  -- it ends behind its first record
-  pub item_onward : (item : Item) (at end : ℕ) → item_of file item at ≡ Walked.End end → at < end
-  unfolding item_of
-  item_onward Variable at end e = let z : at + 1 ≡ end = cc in omega arith
-  item_onward (Transition vars) at end e = (transition_bound file vars end at e).0
-  item_onward (Node vars ranks) at end e = (node_bound file vars ranks at end e).0
-  item_onward (Edge transitions nodes first) at end e = let z = (edge_opens file first at end e).1 in omega arith
-
-  -- one that may begin where the file ends, so that more of it must follow, ends within the file
-  pub item_within : (item : Item) → ((i : ℕ) → i ≤ length file / 8 → Walkable file item i) → (at end : ℕ) → item_of file item at ≡ Walked.End end
-      → end ≤ length file / 8
-  unfolding item_of
-  item_within Variable w at end e = absurd (omega (arith, w (length file / 8) (omega arith)))
-  item_within (Transition vars) w at end e = (transition_bound file vars end at e).1
-  item_within (Node vars ranks) w at end e = (node_bound file vars ranks at end e).1
-  item_within (Edge transitions nodes first) w at end e = absurd (omega (arith, (w (length file / 8) (omega arith)).1))
-
--- ---- updates
--- where a call finds an update, it is in the file
-pub update_found : (file : List ℕ) (at : ℕ) {named : Bool} → named ≡ is_update file at → named ≡ true → at < length file / 8
-update_found file at k t = update_here file at (if_taken k t)
-
--- the variable that is set is one of the file's
-pub set_below : (file : List ℕ) (vars at : ℕ) {right : Bool} → right ≡ update_fields file vars at → not right ≡ false → field_a file at < vars
-set_below file vars at f r = update_named file vars at (unless_left f r)
-
-module _ (file : List ℕ) (vars : ℕ) (marks : List ℕ) where
-  module _ {all : Walked} (at : ℕ) {named : Bool} (k : named ≡ is_update file at) where
-    pub update_stop : (left : ℕ) → all ≡ updates_of file vars left marks at → named ≡ false → Walked.End at ≡ all
+  module _ (named : is_update file at ≡ true) where
+    pub updates_field : update_fields file vars at ≡ false → (left : ℕ) → updates_of file vars left marks at ≡ Err (Refusal.Field at)
     unfolding updates_of
-    update_stop zero inv t = sym (inv ∙ rw (if_left k t))
-    update_stop (suc left) inv t = sym (inv ∙ rw (if_left k t))
+    updates_field f zero = rw (named, f)
+    updates_field f (suc left) = rw (named, f)
 
-    module _ (t : named ≡ true) {right : Bool} (f : right ≡ update_fields file vars at) where
-      pub update_field : (left : ℕ) → all ≡ updates_of file vars left marks at → not right ≡ true → Walked.Refused 4 at ≡ all
+    module _ (right : update_fields file vars at ≡ true) where
+      pub updates_over : (left : ℕ) → left ≡ 0 → updates_of file vars left marks at ≡ Err (Refusal.Repetition at)
       unfolding updates_of
-      update_field zero inv r = sym (inv ∙ rw (if_taken k t, unless_taken f r))
-      update_field (suc left) inv r = sym (inv ∙ rw (if_taken k t, unless_taken f r))
+      updates_over left h = rw (h, named, right)
 
-      module _ (r : not right ≡ false) where
-        pub update_over : (left : ℕ) → all ≡ updates_of file vars left marks at → left ≡ 0 → Walked.Refused 6 at ≡ all
+      -- `a` is the variable that this one sets
+      module _ (a : ℕ) (sets : a ≡ field_a file at) where
+        pub updates_again : (left : ℕ) → (left ≡ 0 → ⊥) → (get_or marks a 0 ≡ 0 → ⊥)
+            → updates_of file vars left marks at ≡ Err (Refusal.Repetition at)
         unfolding updates_of
-        update_over zero inv h = sym (inv ∙ rw (if_taken k t, unless_left f r))
-        update_over (suc left) inv h = absurd (omega arith)
+        updates_again zero h u = absurd (h refl)
+        updates_again (suc left) h u = rw (named, right, ne_eqb _ _ (rw sets at u))
 
-        pub update_again : (left : ℕ) → all ≡ updates_of file vars left marks at → (left ≡ 0 → ⊥)
-            → (get_or marks (field_a file at) 0 ≡ 0 → ⊥) → Walked.Refused 6 at ≡ all
-        unfolding updates_of
-        update_again zero inv h u = absurd (h refl)
-        update_again (suc left) inv h u = sym (inv ∙ rw (if_taken k t, unless_left f r, ne_eqb _ _ u))
-
-        module _ (free : get_or marks (field_a file at) 0 ≡ 0) {found : Walked} (w : found ≡ update_of file vars at) where
-          pub update_ends : (left end : ℕ) → all ≡ updates_of file vars left marks at → (left ≡ 0 → ⊥) → found ≡ Walked.End end
-              → all ≡ updates_of file vars (left - 1) (set marks (field_a file at) 1) end
+        module _ (free : get_or marks a 0 ≡ 0) where
+          pub updates_ends : (left end : ℕ) → (left ≡ 0 → ⊥) → update_of file vars at ≡ Ok end
+              → updates_of file vars left marks at ≡ updates_of file vars (left - 1) (set marks a 1) end
           unfolding updates_of
-          update_ends zero end inv h e = absurd (h refl)
-          update_ends (suc left) end inv h e = inv ∙ rw (if_taken k t, unless_left f r, eq-eqb _ _ free, sym w ∙ e, sub-one)
+          updates_ends zero end h e = absurd (h refl)
+          updates_ends (suc left) end h e = rw sets (rw (named, right, eq-eqb _ _ (rw sets at free), e, sub-one))
 
-          pub update_refused : (left : ℕ) {number place : ℕ} → all ≡ updates_of file vars left marks at → (left ≡ 0 → ⊥)
-              → found ≡ Walked.Refused number place → Walked.Refused number place ≡ all
+          pub updates_refused : (left : ℕ) (refusal : Refusal) → (left ≡ 0 → ⊥) → update_of file vars at ≡ Err refusal
+              → updates_of file vars left marks at ≡ Err refusal
           unfolding updates_of
-          update_refused zero inv h e = absurd (h refl)
-          update_refused (suc left) inv h e = sym (inv ∙ rw (if_taken k t, unless_left f r, eq-eqb _ _ free, sym w ∙ e))
+          updates_refused zero refusal h e = absurd (h refl)
+          updates_refused (suc left) refusal h e = rw (named, right, eq-eqb _ _ (rw sets at free), e)

@@ -1,18 +1,14 @@
--- `sections::assignment_fields` meets its contract: the rest is tested where a names a variable.
+-- `sections::assignment_fields` meets its contract.
 -- Assumes nothing.
-use native.Mathlib.Omega.{arith}
-use borrow.Author.Tests.{lt-ltb, le-ltb}
-use Prim.Native.Nat.{◌+◌, ◌*◌}
+use Rattle.std.proofs.Common.{arith}
+use Rattle.std.proofs.lemmas.Grind.{common_steps}
 use Rattle.sections.specs.Section.{assignment_fields}
 use Rattle.sections.proofs.assignment_fields.Goals as goal
 
-pub overflow_cast-file : goal.overflow_cast-file
-overflow_cast-file c = omega (arith, c.shared_slice_known-2-1.given (8 * c.args.at + 1))
-
-pub returns-then-file-base : goal.returns-then-file-base
+pub returns-then-from-vars : goal.returns-then-from-vars
 unfolding assignment_fields
-returns-then-file-base c = simp (lt-ltb _ _ c.if-file-base.true) c.zeros.ensures
+returns-then-from-vars c = grind (arith, common_steps)
 
-pub returns : goal.returns
+pub returns-else-from-vars : goal.returns-else-from-vars
 unfolding assignment_fields
-returns c = simp (le-ltb _ _ c.if-file-base.false)
+returns-else-from-vars c = grind (arith, common_steps)

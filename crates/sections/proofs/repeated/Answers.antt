@@ -1,23 +1,21 @@
--- `sections::repeated` meets its contract. The loop's invariant: whether one of all edges is the same is whether one of those left is.
+-- `sections::repeated` meets its contract: it goes through the n edges in a row.
 -- Assumes nothing.
+use borrow.Author.Tests.{tests}
+use mathlib.Core.Path.{◌≡◌}
+use mathlib.Core.Bool.{true, false}
 use native.Mathlib.Omega.{arith}
-use mathlib.Core.Path.{refl, sym, ◌∙◌}
+use Prim.Native.Nat.{◌+◌, ◌*◌}
+use Rattle.std.proofs.Common.{rules}
+use Rattle.std.proofs.lemmas.Iterator.{YieldsList-from_range, cases_from_any}
+use Rattle.records.specs.Record.{same_bytes}
 use Rattle.sections.specs.Section.{repeated_of}
-use Rattle.truths.proofs.Laws.Any.{any_none, any_hit, any_next}
-use Rattle.truths.proofs.Laws.Answer.{if_taken, if_left}
+use Rattle.sections.proofs.Steps.Section.{any_found}
 use Rattle.sections.proofs.repeated.Goals as goal
 
-pub loop-left-init : goal.loop-left-init
-unfolding repeated_of
-loop-left-init c = (refl, (omega arith))
-
-pub returns-then-same_bytes : goal.returns-then-same_bytes
-returns-then-same_bytes c =
-    sym (c.loop-left.invariant.0 ∙ any_hit _ _ _ c.loop-left-test.true (if_taken c.same_bytes.ensures c.if-same_bytes.true))
-
-pub loop-left-preserved : goal.loop-left-preserved
-loop-left-preserved c =
-    (c.loop-left.invariant.0 ∙ any_next _ _ _ c.loop-left-test.true (if_left c.same_bytes.ensures c.if-same_bytes.false), omega arith)
-
 pub returns : goal.returns
-returns c = sym (c.loop-left.invariant.0 ∙ any_none _ _ _ c.loop-left-test.false)
+unfolding repeated_of
+returns c =
+    any_found (λ e. same_bytes c.args.file.now (8 * e + 1) (8 * c.args.at + 1) 5) c.args.first c.args.n _
+    (cases_from_any _ _ _ (λ e. same_bytes c.args.file.now (8 * e + 1) (8 * c.args.at + 1) 5 ≡ true) (λ e. same_bytes c.args.file.now (8 * e + 1) (8 * c.args.at + 1) 5 ≡ false)
+    c.any.ensures.ran (YieldsList-from_range c.args.first (c.args.first + c.args.n) c.args.n (cc) (omega arith))
+    (λ x q k. search (rules, tests)) (λ x q k. search (rules, tests)))

@@ -1,13 +1,14 @@
 -- `sections::transition` meets its contract: where the guard ends, the updates say the rest.
 -- Assumes nothing.
-use mathlib.Core.Path.{sym, ◌∙◌}
+use Rattle.std.proofs.Common.{arith}
+use Rattle.std.proofs.lemmas.Grind.{common_steps}
 use Rattle.sections.specs.Section.{transition_of}
 use Rattle.sections.proofs.transition.Goals as goal
 
-pub returns-in-End : goal.returns-in-End
+pub returns-in_err-walk : goal.returns-in_err-walk
 unfolding transition_of
-returns-in-End c = simp (sym c.walk-guard.ensures ∙ c.in-End.is) c.updates.ensures
+returns-in_err-walk c = grind (arith, common_steps)
 
-pub returns-in-Refused : goal.returns-in-Refused
+pub returns : goal.returns
 unfolding transition_of
-returns-in-Refused c = simp (sym c.walk-guard.ensures ∙ c.in-Refused.is)
+returns c = grind (arith, common_steps)

@@ -1,13 +1,14 @@
--- `sections::transition_fields` meets its contract: the rest is tested where a is 0 or 1.
+-- `sections::transition_fields` meets its contract.
 -- Assumes nothing.
-use borrow.Author.Tests.{le-leb, lt-leb}
+use Rattle.std.proofs.Common.{arith}
+use Rattle.std.proofs.lemmas.Grind.{common_steps}
 use Rattle.sections.specs.Section.{transition_fields}
 use Rattle.sections.proofs.transition_fields.Goals as goal
 
 pub returns-then-file-base-le1 : goal.returns-then-file-base-le1
 unfolding transition_fields
-returns-then-file-base-le1 c = simp (le-leb _ _ c.if-file-base-le1.true) c.zeros.ensures
+returns-then-file-base-le1 c = grind (arith, common_steps)
 
-pub returns : goal.returns
+pub returns-else-file-base-le1 : goal.returns-else-file-base-le1
 unfolding transition_fields
-returns c = simp (lt-leb _ _ c.if-file-base-le1.false)
+returns-else-file-base-le1 c = grind (arith, common_steps)

@@ -1,8 +1,7 @@
 -- `sections::transition_places` meets its contract: the places of transitions.
 -- Assumes nothing.
-use Rattle.sections.specs.Item.{item_of}
+use Rattle.sections.proofs.Laws.Section.{transition_bound}
 use Rattle.sections.proofs.transition_places.Goals as goal
 
-pub returns : goal.returns
-unfolding item_of
-returns c = c.places.ensures
+pub places-requires-clause-within : goal.places-requires-clause-within
+places-requires-clause-within c = λ i end e. (transition_bound _ _ end i e).1

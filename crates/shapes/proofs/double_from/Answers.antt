@@ -7,6 +7,6 @@ pub returns-then-edge : goal.returns-then-edge
 unfolding double_from
 returns-then-edge c = simp c.if-edge.true
 
-pub returns : goal.returns
+pub returns-else-edge : goal.returns-else-edge
 unfolding double_from
-returns c = simp c.if-edge.false
+returns-else-edge c = simp c.if-edge.false

@@ -9,8 +9,8 @@ use mathlib.Core.Bool
 use mathlib.Core.List.{List, [], ◌∷◌, ◌++◌, map, flatten}
 use Prim.Native.Nat.{ℕ, ◌+◌}
 use lib.ListN.{length}
+use Rattle.std.specs.declared.result.Result.TheVariants.{Ok}
 use Rattle.diagrams.specs.declared.Diagram.{Diagram}
-use Rattle.shapes.specs.declared.Reading.{Reading}
 use Rattle.diagrams.specs.Diagram.{found_of, diagram_of, Loaded}
 use Rattle.diagrams.specs.Start.{starts_of, Readable}
 use Rattle.diagrams.proofs.Laws.Diagram.{diagram_loaded, loaded_once}
@@ -85,7 +85,7 @@ diagram c = diagram_of (file c) (outline c)
 
 -- ---- what is claimed
 abbrev pub Reads : Case → Type 0
-Reads c = found_of (file c) ≡ Reading.Found (outline c)
+Reads c = found_of (file c) ≡ Ok (outline c)
 
 pub loaded : (c : Case) → Reads c → Loaded (file c) (diagram c)
 loaded c r = diagram_loaded (file c) (outline c) r

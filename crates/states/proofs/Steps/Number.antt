@@ -5,13 +5,14 @@ use mathlib.Core.Bool.{Bool, true, false, cond, ◌&&◌, and-false}
 use mathlib.Core.List.{List, [], ◌∷◌, ◌++◌, append-nil}
 use Prim.Native.Nat.{ℕ, zero, suc, ◌+◌, ◌*◌, ◌-◌, ◌/◌, ◌%◌, ◌<◌, ◌≤◌}
 use native.Mathlib.Nat.{add_comm, mul_comm, div-div-eq-div-mul, div-one, mod-lt, mod-eq_of_lt, le_refl, le_trans, lt_of_lt_of_le, add-mul, one-mul}
-use native.Mathlib.Numerals.{sub-one, add-one}
+use native.Mathlib.Numerals.{sub-one}
 use native.Mathlib.Omega.{arith}
 use lib.Arith.{digits_div, digits_mod, mod-mul}
 use lib.IntN.{ℤ, pos, ◌+ℤ◌}
 use lib.ListN.{length, take, drop, get_or, set, drop_of_length-le}
 use lib.Seq.{drop-cons, take_all, set-get_or}
 use lib.Signed.{le_z, lt_z}
+use Rattle.std.specs.Bool.{MatchBool}
 use Rattle.integers.specs.Radix.{at, offset_of}
 use Rattle.integers.proofs.Laws.Parts.{ints}
 use Rattle.states.specs.State.{Within}
@@ -314,22 +315,24 @@ module _ (lows highs state : List ℤ) where
           let b = from n (suc i) (omega arith) (omega arith) in
           rw (sub-one, sym a.0, set-get_or) at (carried_more state (suc i) b (omega arith) (rw (sub-one, a.1) (omega ints)))
 
--- ---- the last state: the variables before i are at their high ends
-module _ (highs state : List ℤ) (i : ℕ) where
-  abbrev pub last_from : Bool
-  last_from = last_of (drop i highs) (drop i state)
+-- ---- the last state, index by index
 
-  pub last_end : length highs ≤ i → last_from ≡ true
-  unfolding last_of
-  last_end l = rw (drop_of_length-le highs {i = i} l)
+last_met : (highs state : List ℤ) → ((i : ℕ) → i < length highs → le_z (get_or highs i (pos 0)) (get_or state i (pos 0)) ≡ true) → last_of highs state ≡ true
+unfolding last_of
+last_met [] state f = refl
+last_met (high ∷ highs) [] f = refl
+last_met (high ∷ highs) (value ∷ state) f = rw (f 0 (omega arith), last_met highs state (λ i l. f (suc i) (omega arith)))
 
-  module _ (l : i < length highs) (m : i < length state) where
-    opened : last_from ≡ (le_z (get_or highs i (pos 0)) (get_or state i (pos 0)) && last_of (drop (i + 1) highs) (drop (i + 1) state))
-    unfolding last_of
-    opened = rw (add-one i, drop-cons highs i (pos 0) l, drop-cons state i (pos 0) m)
+last_missed : (i : ℕ) (highs state : List ℤ) → i < length highs → i < length state → le_z (get_or highs i (pos 0)) (get_or state i (pos 0)) ≡ false
+    → last_of highs state ≡ false
+unfolding last_of
+last_missed i [] state l m e = absurd (omega arith)
+last_missed i (high ∷ highs) [] l m e = absurd (omega arith)
+last_missed zero (high ∷ highs) (value ∷ state) l m e = rw e
+last_missed (suc i) (high ∷ highs) (value ∷ state) l m e = rw (last_missed i highs state (omega arith) (omega arith) e, and-false)
 
-    pub last_below : lt_z (get_or state i (pos 0)) (get_or highs i (pos 0)) ≡ true → last_from ≡ false
-    last_below e = let z : le_z (get_or highs i (pos 0)) (get_or state i (pos 0)) ≡ false = omega ints in opened ∙ rw z
-
-    pub last_next : lt_z (get_or state i (pos 0)) (get_or highs i (pos 0)) ≡ false → last_from ≡ last_of (drop (i + 1) highs) (drop (i + 1) state)
-    last_next e = let z : le_z (get_or highs i (pos 0)) (get_or state i (pos 0)) ≡ true = omega ints in opened ∙ rw z
+pub last_is : (highs state : List ℤ) (b : Bool) → length highs ≡ 12 → length state ≡ 12
+    → MatchBool b ((i : ℕ) → i < 12 → le_z (get_or highs i (pos 0)) (get_or state i (pos 0)) ≡ true)
+    ((i : ℕ) × (i < 12) × (le_z (get_or highs i (pos 0)) (get_or state i (pos 0)) ≡ false)) → b ≡ last_of highs state
+last_is highs state true d c m = sym (last_met highs state (λ i l. m i (omega arith)))
+last_is highs state false d c m = sym (last_missed m.0 highs state (omega arith) (omega arith) m.2)

@@ -1,10 +1,6 @@
--- `states::number_of`: the number and the count are those of the variables from i on (`Numbered`). The measure is i.
--- Assumes nothing.
+-- `states::number_of`: the number and the count are those of the variables from i on (`Numbered`). Assumes nothing.
 use Rattle.states.proofs.Steps.Number.{Numbered}
 use Rattle.states.proofs.number_of.Given as goal
 
 abbrev pub invariant-loop-i : goal.invariant-loop-i
 invariant-loop-i l = Numbered l.low l.high l.state l.number l.behind l.i
-
-abbrev pub decreases-loop-i : goal.decreases-loop-i
-decreases-loop-i l = l.i

@@ -12,23 +12,28 @@ use borrow.Author.Rules.{rules}
 use Rattle.successors.proofs.cut_in.Goals as goal
 use Rattle.successors.proofs.cut_in.Goals.{After-cut}
 
+low : (c : After-cut) → SFits w16 (get_or c.args.ranges.low c.args.i (pos 0))
+low c = search rules
+
+high : (c : After-cut) → SFits w16 (get_or c.args.ranges.high c.args.i (pos 0))
+high c = search rules
+
 is : (c : After-cut) → let a = c.args in c.cut.result ≡ cut_in a.ranges a.i a.x
 is c =
-    let a = c.args in
-    let l = c.widen in
-    let h = c.widen-2 in
+    let l = c.from in
+    let h = c.from-2 in
     rw (
       back w64 l.result l.type_inv,
       l.ensures,
       back w64 h.result h.type_inv,
       h.ensures,
-      back w16 (get_or a.ranges.low a.i (pos 0)) c.l-1.given,
-      back w16 (get_or a.ranges.high a.i (pos 0)) c.h-1.given,
+      to_z-of_z (low c),
+      to_z-of_z (high c),
       to_z-of_z c.ranges.x,
     ) at c.cut.ensures
 
 kept : (c : After-cut) → SFits w16 c.cut.result
-kept c = rw (is c) (cut_fits _ _ _ (record { sfits = c.l-1.given }) (record { sfits = c.h-1.given }))
+kept c = rw (is c) (cut_fits _ _ _ (low c) (high c))
 
 pub overflow_cast-result : goal.overflow_cast-result
 overflow_cast-result c = let k = kept c in search rules

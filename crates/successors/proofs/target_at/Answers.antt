@@ -15,6 +15,6 @@ returns-then-kind_is c = record { is = c.picked_at.ensures.is ∙ sym (target_pi
 pub assigned_at-requires : goal.assigned_at-requires
 assigned_at-requires c = record { fits = c.requires.fits.value (if_left c.kind_is.ensures c.if-kind_is.false); spans = c.requires.spans }
 
-pub returns : goal.returns
-returns c =
+pub returns-else-kind_is : goal.returns-else-kind_is
+returns-else-kind_is c =
     record { is = c.assigned_at.ensures ∙ sym (target_assigned _ _ _ (if_left c.kind_is.ensures c.if-kind_is.false)); bounded = rw c.assigned_at.ensures (assigned_bounded _ _ _) }

@@ -43,8 +43,9 @@ module _ (file : List ℕ) (ranges : Box) (test : Test) (fits : TestFits ranges.
   targets_fit : {state : List ℤ} → Inside ranges state
       → (i : ℕ) → i < length (targets_listed test) → TruthFits file (get_or (targets_listed test) i 0) state
   targets_fit w i l =
-      let m : i < test.count = omega (arith, length-take test.count test.targets, min-le_left test.count (length test.targets)) in
-      rw (get_or-take test.count test.targets i 0 m) (fits.targets i m _ w)
+      let targets = test.targets in
+      let m : i < targets.count = omega (arith, length-take targets.count targets.places, min-le_left targets.count (length targets.places)) in
+      rw (get_or-take targets.count targets.places i 0 m) (fits.targets i m _ w)
 
   module _ {b : Box} {state : List ℤ} (inside : Inside b state) (w : Inside ranges state) where
     abbrev enabled : Bool

@@ -1,24 +1,11 @@
 -- `testing::choose` meets its contract: the places are those chosen of the nodes passed.
 -- Assumes nothing.
-use native.Mathlib.Omega.{arith}
-use Rattle.testing.proofs.Steps.Testing.{choosing_begin, choosing_few, choosing_end, choosing_more, choosing_skip}
+use Rattle.testing.proofs.Steps.Testing.{choosing_begin, choosing_end, choosing_more, choosing_skip}
 use Rattle.testing.proofs.choose.Goals as goal
 use Rattle.testing.proofs.choose.Goals.{then-marks-i, else-marks-i}
 
 pub loop-i-init : goal.loop-i-init
 loop-i-init c = choosing_begin _ _ _
-
-pub overflow_cast-places : goal.overflow_cast-places
-overflow_cast-places c = omega (arith, c.requires.small c.loop-i.i c.loop-i-test.true)
-
-pub offset_bounds-places-count : goal.offset_bounds-places-count
-offset_bounds-places-count c = omega (arith, choosing_few _ _ _ c.loop-i.invariant)
-
-pub bounds-places-count : goal.bounds-places-count
-bounds-places-count c = omega (arith, choosing_few _ _ _ c.loop-i.invariant)
-
-pub overflow_add-count : goal.overflow_add-count
-overflow_add-count c = omega (arith, choosing_few _ _ _ c.loop-i.invariant)
 
 pub loop-i-preserved : goal.loop-i-preserved
 loop-i-preserved c =

@@ -13,13 +13,8 @@ bounds-marks-node c = omega (arith, (keeps _ _ c.requires.loaded).nodes.1)
 pub loop-e-init : goal.loop-e-init
 loop-e-init c = marked_kept _ _ _ _ _ _ _ (omega (arith, (keeps _ _ c.requires.loaded).nodes.1))
 
-pub edge_of-edge-requires : goal.edge_of-edge-requires
-edge_of-edge-requires c = record { loaded = c.requires.loaded; there = c.loop-e-test.true }
-
-pub bounds-marks-to : goal.bounds-marks-to
-bounds-marks-to c =
-    target_small _ _ c.requires.loaded _ _ _ c.loop-e.invariant
-    c.loop-e-test.true c.edge_of-edge.ensures
+pub bounds-marks-edge : goal.bounds-marks-edge
+bounds-marks-edge c = target_small _ _ c.requires.loaded _ _ _ c.loop-e.invariant c.loop-e-test.true c.edge_of-edge.ensures
 
 pub loop-e-preserved : goal.loop-e-preserved
 loop-e-preserved c =

@@ -15,8 +15,9 @@ use Prim.Native.Nat.{ℕ, ◌+◌, ◌*◌, ◌<◌, ◌≤◌}
 use native.Mathlib.Nat.{le_refl, lt_irrefl, le_of_lt, lt_of_lt_of_le}
 use borrow.Author.Tests.{lt-ltb, le-ltb, ltb-true, ltb-false, le-leb, lt-leb, leb-true, leb-false}
 use lib.Dec.{ltb}
+use Rattle.std.specs.declared.result.Result.TheVariants.{Err}
+use Rattle.shapes.specs.declared.Refusal.{Refusal}
 use Rattle.diagrams.specs.declared.Diagram.{Diagram}
-use Rattle.shapes.specs.declared.Reading.{Reading}
 use Rattle.diagrams.specs.Diagram.{found_of, Loaded, state_at}
 use Rattle.diagrams.specs.Start.{starts_of}
 use Rattle.diagrams.proofs.Laws.Start.{start_follows, start_refused}
@@ -121,7 +122,7 @@ module _ (file : List ℕ) (g : Diagram) where
 
 -- ---- any file
 module _ (file : List ℕ) where
-  pub check_short : {room : ℕ} → room < 32 → check_of file room ≡ refused_of 1 0
+  pub check_short : {room : ℕ} → room < 32 → check_of file room ≡ refused_of Refusal.Buffer
   unfolding check_of
   check_short l = rw (lt-ltb _ _ l)
 
@@ -129,12 +130,12 @@ module _ (file : List ℕ) where
   unfolding check_of
   check_long l = rw (le-ltb _ _ l)
 
-  pub verdict_refused : (number place : ℕ) → found_of file ≡ Reading.Refused number place → verdict_of file ≡ refused_of number place
+  pub verdict_refused : (refusal : Refusal) → found_of file ≡ Err refusal → verdict_of file ≡ refused_of refusal
   unfolding verdict_of
-  verdict_refused number place is = rw is
+  verdict_refused refusal is = rw is
 
   module _ (g : Diagram) (r : Loaded file g) where
-    pub verdict_startless : starts_of file g ≡ false → verdict_of file ≡ refused_of 20 0
+    pub verdict_startless : starts_of file g ≡ false → verdict_of file ≡ refused_of Refusal.NoStart
     unfolding verdict_of
     verdict_startless e = rw (r.found, ← r.is) (start_refused refused_of file g (judged_of file g) e)
 

@@ -1,7 +1,7 @@
 -- The search for the lowest broken condition: what is at hand before it, a condition and its test, and the loops over the states and the conditions.
 -- Assumes nothing.
 use mathlib.Core.Path.{◌≡◌, sym, ◌∙◌}
-use mathlib.Core.Bool.{Bool, true, false, cond}
+use mathlib.Core.Bool.{Bool, true, false}
 use mathlib.Core.List.{List}
 use Prim.Native.Nat.{ℕ, ◌+◌, ◌*◌, ◌<◌, ◌≤◌}
 use native.Mathlib.Nat.{le_trans, mul-le-mul}
@@ -10,6 +10,8 @@ use borrow.Author.Count.{below_more}
 use borrow.Author.Tests.{le-leb, lt-leb}
 use lib.IntN.{ℤ}
 use lib.ListN.{length}
+use Rattle.std.specs.declared.result.Result.TheVariants.{Ok, Err}
+use Rattle.shapes.specs.declared.Refusal.{Refusal}
 use Rattle.states.specs.State.{Within}
 use Rattle.states.specs.Ranges.{Ranges}
 use Rattle.states.specs.Number.{count_of, state_of}
@@ -18,7 +20,6 @@ use Rattle.expressions.specs.Spans.{spans_of, Spans}
 use Rattle.expressions.proofs.Laws.Span.{spans_right}
 use Rattle.diagrams.specs.declared.Diagram.{Diagram}
 use Rattle.shapes.specs.declared.Outline.{Outline}
-use Rattle.shapes.specs.declared.Reading.{Reading}
 use Rattle.diagrams.specs.Diagram.{found_of, diagram_of, Loaded, state_at}
 use Rattle.diagrams.specs.Promise.{Promise}
 use Rattle.diagrams.proofs.Laws.Diagram.{promised, state_at_lem, state_numbered}
@@ -30,7 +31,6 @@ use Rattle.testing.specs.Testing.{test_of, passes_of, TestFits}
 use Rattle.testing.specs.declared.Test.{Test}
 use Rattle.testing.proofs.Laws.Testing.{prepared, test_fits}
 use Rattle.verdicts.specs.Verdict.{unnamed_of, named_of, is_true, judged_of, single_judged}
-use Rattle.verdicts.specs.declared.Single.{Single}
 use Rattle.searching.specs.declared.scan.Scan.{Scan}
 use Rattle.searching.specs.Scan.{search_of, scan_at, onward_of}
 use Rattle.searching.proofs.Laws.Scan.{StatesPassed, pass_begin, pass_within, pass_here, pass_more, onward_asks, pass_onward}
@@ -45,22 +45,22 @@ module _ (file : List ℕ) (g : Diagram) (r : Loaded file g) where
   spans_serve e = rw e (spans_right file small)
 
 -- what was found, looked up
-pub loads : {file : List ℕ} {o : Outline} {g : Diagram} → found_of file ≡ Reading.Found o → g ≡ diagram_of file o → Loaded file g
+pub loads : {file : List ℕ} {o : Outline} {g : Diagram} → found_of file ≡ Ok o → g ≡ diagram_of file o → Loaded file g
 loads e is = record { outline = _; found = e; is = is }
 
 -- ---- the single test
 module _ (file : List ℕ) (g : Diagram) (condition state : ℕ) where
-  pub tested_eleven : total_of file g ≤ condition → single_judged file g condition state ≡ Single.Refused 11 0
+  pub tested_eleven : total_of file g ≤ condition → single_judged file g condition state ≡ Err Refusal.ConditionNumber
   unfolding single_judged
   tested_eleven l = rw (le-leb _ _ l)
 
-  pub tested_twelve : condition < total_of file g → g.states ≤ state → single_judged file g condition state ≡ Single.Refused 12 0
+  pub tested_twelve : condition < total_of file g → g.states ≤ state → single_judged file g condition state ≡ Err Refusal.StateNumber
   unfolding single_judged
   tested_twelve l m = rw (lt-leb _ _ l, le-leb _ _ m)
 
   tested_whole : condition < total_of file g → state < g.states → {b : Bool}
       → b ≡ condition_holds file g (condition_at file g condition) (state_at g state)
-      → single_judged file g condition state ≡ cond b Single.Holds Single.Fails
+      → single_judged file g condition state ≡ Ok b
   unfolding single_judged
   tested_whole l m e = rw (lt-leb _ _ l, lt-leb _ _ m, ← e)
 
@@ -131,7 +131,7 @@ module _ {file : List ℕ} {g : Diagram} {total : ℕ} (h : Ready file g total) 
         pub single_asks : Within g.low g.high state × TestFits g.low g.high file test
         single_asks = (rw (state_is n e) (state_numbered file g h.loaded n l).0, test_asked)
 
-        pub single_answers : {b : Bool} → b ≡ passes_of g.low g.high file test state → single_judged file g number n ≡ cond b Single.Holds Single.Fails
+        pub single_answers : {b : Bool} → b ≡ passes_of g.low g.high file test state → single_judged file g number n ≡ Ok b
         single_answers f =
             tested_whole file g number n (rw (← h.total_is) below) l (rw (state_is n e) at (f ∙ passes_is state))
 

@@ -13,7 +13,7 @@ pub starts-requires : goal.starts-requires
 starts-requires c = record { loaded = c.requires; spans = spans_serve _ _ c.requires c.spans_of-spans.ensures }
 
 pub returns-then-not-starts : goal.returns-then-not-starts
-returns-then-not-starts c = c.unnamed.ensures ∙ sym (start_refused _ _ _ _ (sym c.starts.ensures ∙ not-true _ c.if-not-starts.true-raw))
+returns-then-not-starts c = c.refused.ensures ∙ sym (start_refused _ _ _ _ (sym c.starts.ensures ∙ not-true _ c.if-not-starts.true-raw))
 
 pub first_break-requires : goal.first_break-requires
 first_break-requires c = record { loaded = c.requires; spans = spans_serve _ _ c.requires c.spans_of-spans.ensures }

@@ -37,16 +37,9 @@ passes-requires c =
     c.state_of-s.ensures in
     record { spans = c.requires.spans; within = asks.0; fits = asks.1 }
 
-pub returns-then-passes : goal.returns-then-passes
-returns-then-passes c =
+pub returns : goal.returns
+returns c =
     let ready : Ready c.args.file.now c.args.diagram c.total.result = record { loaded = c.requires.loaded; total_is = c.total.ensures } in
     let answers = single_answers ready c.if-total-condition.false c.condition_at.ensures c.test_of-test.ensures c.if-diagram-state.false
     c.state_of-s.ensures c.passes.ensures in
-    sym (rw c.if-passes.true at answers)
-
-pub returns-else-passes : goal.returns-else-passes
-returns-else-passes c =
-    let ready : Ready c.args.file.now c.args.diagram c.total.result = record { loaded = c.requires.loaded; total_is = c.total.ensures } in
-    let answers = single_answers ready c.if-total-condition.false c.condition_at.ensures c.test_of-test.ensures c.if-diagram-state.false
-    c.state_of-s.ensures c.passes.ensures in
-    sym (rw c.if-passes.false at answers)
+    sym answers

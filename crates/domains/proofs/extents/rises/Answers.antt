@@ -1,19 +1,15 @@
--- `domains::extents::rises`, by the kind and the two quotients. Assumes nothing.
-use borrow.Author.Tests.{eq-eqb, ne_eqb}
+-- `domains::extents::rises`, where the two quotients are compared, by their bits. Assumes nothing.
+use borrow.Author.Tests.{ne_eqb}
 use mir.Facts.{to_z-of_z}
 use Rattle.integers.proofs.Laws.Equality.{bits_equal}
 use Rattle.domains.specs.Extent.{rises_of}
 use Rattle.domains.proofs.extents.rises.Goals as goal
 
-pub returns-then-kind-eq24 : goal.returns-then-kind-eq24
+pub returns-else-kind-eq24 : goal.returns-else-kind-eq24
 unfolding rises_of
-returns-then-kind-eq24 c = rw (eq-eqb _ _ c.if-kind-eq24.true)
-
-pub returns : goal.returns
-unfolding rises_of
-returns c =
+returns-else-kind-eq24 c =
     let a = c.divide in
-    let b = c.divide-2 in
+    let b = c.divide-else-kind-eq24 in
     let f = c.ranges in
     rw (
       bits_equal (record { sfits = a.type_inv }) (record { sfits = b.type_inv }),

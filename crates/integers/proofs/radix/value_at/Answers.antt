@@ -3,7 +3,7 @@ use lib.IntN.{pos, ◌+ℤ◌}
 use mir.Syntax.{w16}
 use mir.Val.{SFits}
 use Rattle.integers.specs.Radix.{at}
-use Rattle.integers.proofs.Laws.Signed.{signed}
+use borrow.Author.Rules.{rules}
 use Rattle.integers.proofs.Laws.Parts.{ints, one_part, add_parts}
 use Rattle.integers.proofs.radix.value_at.Goals as goal
 use Rattle.integers.proofs.radix.value_at.Goals.{Start}
@@ -16,14 +16,8 @@ fits s =
     omega (ints, add_parts low (pos s.args.offset), one_part v, one_part low, one_part s.args.high)
 
 pub overflow_cast-result : goal.overflow_cast-result
-overflow_cast-result c = let f = fits c in search signed
-
-pub overflow_add-result : goal.overflow_add-result
-overflow_add-result c = let f = fits c in search signed
-
-pub overflow_cast-result-3 : goal.overflow_cast-result-3
-overflow_cast-result-3 c = let f = fits c in search signed
+overflow_cast-result c = let f = fits c.before.before in search rules
 
 pub returns : goal.returns
 unfolding at
-returns c = let f = fits c in search signed
+returns c = let f = fits c.before.before in search rules

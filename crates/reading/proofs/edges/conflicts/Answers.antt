@@ -1,23 +1,21 @@
--- `reading::edges::conflicts`: the edges tried so far don't conflict, so the search goes on among those left.
-use mathlib.Core.Path.{refl, sym, ap, ◌∙◌}
+-- `reading::edges::conflicts`: it goes through the n edges in a row.
+-- Assumes nothing.
+use borrow.Author.Tests.{tests}
+use mathlib.Core.Path.{◌≡◌}
+use mathlib.Core.Bool.{Bool, true, false}
+use Prim.Native.Nat.{ℕ, ◌+◌}
 use native.Mathlib.Omega.{arith}
-use Rattle.shapes.specs.declared.Edge.{Edge}
-use Rattle.truths.proofs.Laws.Any.{any_none, any_hit, any_next}
+use Rattle.std.proofs.Common.{rules}
+use Rattle.std.proofs.lemmas.Iterator.{YieldsList-from_range, cases_from_any}
+use Rattle.sections.specs.Section.{edge_at}
 use Rattle.reading.specs.Edge.{conflict_of}
+use Rattle.reading.proofs.Steps.Any.{any_found}
 use Rattle.reading.proofs.edges.conflicts.Goals as goal
 
-pub loop-left-init : goal.loop-left-init
-loop-left-init c = (refl, omega arith)
-
-pub returns-then-conflict : goal.returns-then-conflict
-returns-then-conflict c =
-    let tested = c.conflict.ensures ∙ ap (λ (x : Edge). conflict_of x c.args.edge) c.edge_at.ensures in
-    sym (c.loop-left.invariant.0 ∙ any_hit _ _ _ c.loop-left-test.true (sym tested ∙ c.if-conflict.true))
-
-pub loop-left-preserved : goal.loop-left-preserved
-loop-left-preserved c =
-    let tested = c.conflict.ensures ∙ ap (λ (x : Edge). conflict_of x c.args.edge) c.edge_at.ensures in
-    (c.loop-left.invariant.0 ∙ any_next _ _ _ c.loop-left-test.true (sym tested ∙ c.if-conflict.false), omega arith)
-
 pub returns : goal.returns
-returns c = sym (c.loop-left.invariant.0 ∙ any_none _ _ _ c.loop-left-test.false)
+returns c =
+    let a = c.args in
+    let test : ℕ → Bool = λ i. conflict_of (edge_at a.file.now i) a.edge in
+    any_found test a.first a.n _
+    (cases_from_any _ _ _ (λ i. test i ≡ true) (λ i. test i ≡ false) c.any.ensures.ran
+    (YieldsList-from_range a.first (a.first + a.n) a.n (cc) (omega arith)) (λ x q k. search (rules, tests)) (λ x q k. search (rules, tests)))

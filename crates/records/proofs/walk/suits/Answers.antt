@@ -1,21 +1,24 @@
--- `records::walk::suits` meets its contract: at each return the tests passed pick the case of `suits`.
+-- `records::walk::suits` meets its contract: what is asked picks the case of `suits`.
 -- Assumes nothing.
 use borrow.Author.Tests.{eq-eqb, ne_eqb}
+use mathlib.Core.Logic.{⊎_elim}
+use mathlib.Core.Path.{◌≡◌, refl}
+use Rattle.records.specs.declared.kinds.Sort.TheVariants.{Number, Truth}
 use mir.Syntax.{w16}
 use Rattle.integers.proofs.Laws.Parts.{back}
 use Rattle.records.specs.Walk.{suits}
 use Rattle.records.proofs.walk.suits.Goals as goal
 
-pub returns-then-want-ne-DIVISOR : goal.returns-then-want-ne-DIVISOR
+pub returns-in-Number : goal.returns-in-Number
 unfolding suits
-returns-then-want-ne-DIVISOR c = simp (ne_eqb _ _ c.if-want-ne-DIVISOR.true)
+returns-in-Number c = ⊎_elim (λ (e : c.args.want ≡ Number). rw e refl) (λ (e : c.args.want ≡ Truth). rw e refl) c.in-Number.is
 
-pub returns-then-file-at-ne16 : goal.returns-then-file-at-ne16
+pub returns-else-file-at-eq16 : goal.returns-else-file-at-eq16
 unfolding suits
-returns-then-file-at-ne16 c = simp (eq-eqb _ _ c.if-want-ne-DIVISOR.false, ne_eqb _ _ c.if-file-at-ne16.true)
+returns-else-file-at-eq16 c = simp (c.in-Divisor.is, ne_eqb _ _ c.if-file-at-eq16.false)
 
-pub returns : goal.returns
+pub returns-then-file-at-eq16 : goal.returns-then-file-at-eq16
 unfolding suits
-returns c =
+returns-then-file-at-eq16 c =
     rw (back w16 c.value_at.result c.value_at.type_inv)
-    (simp (eq-eqb _ _ c.if-want-ne-DIVISOR.false, eq-eqb _ _ c.if-file-at-ne16.false, c.value_at.ensures))
+    (simp (c.in-Divisor.is, eq-eqb _ _ c.if-file-at-eq16.true, c.value_at.ensures))

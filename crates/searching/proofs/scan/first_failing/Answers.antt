@@ -7,9 +7,10 @@ use Rattle.testing.specs.Testing.{passes_of}
 use Rattle.testing.proofs.Laws.Testing.{passes_vacuous, passes_concluded}
 use Rattle.diagrams.proofs.Laws.Diagram.{promised}
 use Rattle.searching.specs.Scan.{failing_of}
-use Rattle.searching.proofs.Laws.Scan.{pass_begin, pass_within, pass_idle, pass_more, onward_asks, pass_onward, pass_fails, pass_end}
+use Prim.Native.Nat.{◌+◌}
+use Rattle.searching.proofs.Laws.Scan.{StatesPassed, pass_begin, pass_within, pass_idle, pass_more, onward_asks, pass_onward, pass_fails, pass_end}
 use Rattle.searching.proofs.scan.first_failing.Goals as goal
-use Rattle.searching.proofs.scan.first_failing.Goals.{then-holds+else-not-concludes, else-holds}
+use Rattle.searching.proofs.scan.first_failing.Goals.{Joined-else-holds, else-holds-via-then-holds+else-not-concludes, else-holds-via-else-holds}
 
 pub loop-n-init : goal.loop-n-init
 loop-n-init c = pass_begin _ _ c.requires.loaded
@@ -41,44 +42,32 @@ onward-to-requires c =
     let small = (promised _ _ c.requires.loaded).states.1 in
     record { spans = c.requires.spans; fits = asks.0; ranges = asks.1.0; most = asks.1.1; asked = omega (arith, c.if-ask-n.true, c.loop-n-test.true, small) }
 
--- one state more is passed, and behind it as many as boxes skip
+-- the test passes at the state at hand, so one state more is passed
+moved : (c : Joined-else-holds)
+    → StatesPassed c.args.diagram (passes_of c.args.diagram.low c.args.diagram.high c.args.file.now c.args.test) c.advance-next.result (c.loop-n.n + 1)
+moved c =
+    let tested : passes_of c.args.diagram.low c.args.diagram.high c.args.file.now c.args.test c.loop-n.state ≡ true =
+    elim c.else-holds.branch [
+      | else-holds-via-then-holds+else-not-concludes w ↦
+          passes_concluded _ _ _ _ _ c.holds.ensures w.if-holds.true w.concludes.ensures ∙ w.if-not-concludes.false
+      | else-holds-via-else-holds w ↦ passes_vacuous _ _ _ _ _ c.holds.ensures w.if-holds.false
+    ] in
+    pass_more _ _ c.requires.loaded c.loop-n.invariant c.loop-n-test.true tested c.advance-next.ensures
+
+-- and behind it as many as boxes skip
 pub loop-n-smaller-then-ask-n : goal.loop-n-smaller-then-ask-n
 loop-n-smaller-then-ask-n c =
-    let tested : passes_of c.args.diagram.low c.args.diagram.high c.args.file.now c.args.test c.loop-n.state ≡ true =
-    elim c.if-holds.branch [
-      | then-holds+else-not-concludes w ↦
-          passes_concluded _ _ _ _ _ c.holds.ensures w.if-holds.true w.concludes.ensures ∙ w.if-not-concludes.false
-      | else-holds w ↦ passes_vacuous _ _ _ _ _ c.holds.ensures w.if-holds.false
-    ] in
-    let moved = pass_more _ _ c.requires.loaded c.loop-n.invariant c.loop-n-test.true tested c.advance-next.ensures in
-    let further = pass_onward _ _ c.requires.loaded c.requires.fits (λ state. refl) moved _ _ c.onward-to.ensures in
+    let at = (goal.at.loop-n-smaller-then-ask-n c).Joined-else-holds in
+    let further = pass_onward _ _ c.requires.loaded c.requires.fits (λ state. refl) (moved at) _ _ c.onward-to.ensures in
     omega (arith, further.1, c.loop-n-test.true)
 
 pub loop-n-preserved-then-ask-n : goal.loop-n-preserved-then-ask-n
 loop-n-preserved-then-ask-n c =
-    let tested : passes_of c.args.diagram.low c.args.diagram.high c.args.file.now c.args.test c.loop-n.state ≡ true =
-    elim c.if-holds.branch [
-      | then-holds+else-not-concludes w ↦
-          passes_concluded _ _ _ _ _ c.holds.ensures w.if-holds.true w.concludes.ensures ∙ w.if-not-concludes.false
-      | else-holds w ↦ passes_vacuous _ _ _ _ _ c.holds.ensures w.if-holds.false
-    ] in
-    let moved = pass_more _ _ c.requires.loaded c.loop-n.invariant c.loop-n-test.true tested c.advance-next.ensures in
-    let further = pass_onward _ _ c.requires.loaded c.requires.fits (λ state. refl) moved _ _ c.onward-to.ensures in
-    further.0
-
-pub loop-n-smaller : goal.loop-n-smaller
-loop-n-smaller c = omega (arith, c.loop-n-test.true)
+    let at = (goal.at.loop-n-preserved-then-ask-n c).Joined-else-holds in
+    (pass_onward _ _ c.requires.loaded c.requires.fits (λ state. refl) (moved at) _ _ c.onward-to.ensures).0
 
 pub loop-n-preserved : goal.loop-n-preserved
-loop-n-preserved c =
-    let tested : passes_of c.args.diagram.low c.args.diagram.high c.args.file.now c.args.test c.loop-n.state ≡ true =
-    elim c.if-holds.branch [
-      | then-holds+else-not-concludes w ↦
-          passes_concluded _ _ _ _ _ c.holds.ensures w.if-holds.true w.concludes.ensures ∙ w.if-not-concludes.false
-      | else-holds w ↦ passes_vacuous _ _ _ _ _ c.holds.ensures w.if-holds.false
-    ] in
-    let moved = pass_more _ _ c.requires.loaded c.loop-n.invariant c.loop-n-test.true tested c.advance-next.ensures in
-    moved
+loop-n-preserved c = moved (goal.at.loop-n-preserved c).Joined-else-holds
 
 pub returns : goal.returns
 unfolding failing_of

@@ -1,13 +1,9 @@
 -- `testing::tests::some_holds` meets its contract: no place passed holds.
 -- Assumes nothing.
 use mathlib.Core.Path.{◌≡◌}
-use Prim.Native.Nat.{◌-◌, ◌≤◌}
-use lib.ListN.{take, drop}
-use Rattle.testing.specs.Testing.{some_holds}
+use lib.ListN.{drop}
+use Rattle.testing.specs.Testing.{some_holds, listed}
 use Rattle.testing.proofs.tests.some_holds.Given as goal
 
-abbrev pub invariant-loop-i : goal.invariant-loop-i
-invariant-loop-i l = (l.i ≤ l.count) × (some_holds l.file (drop l.i (take l.count l.places)) l.state ≡ some_holds l.file (take l.count l.places) l.state)
-
-abbrev pub decreases-loop-i : goal.decreases-loop-i
-decreases-loop-i l = l.count - l.i
+abbrev pub invariant-loop-at : goal.invariant-loop-at
+invariant-loop-at l = some_holds l.file (drop l.at-index (listed l.targets)) l.state ≡ some_holds l.file (listed l.targets) l.state

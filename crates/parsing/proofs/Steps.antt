@@ -1,2 +1,0 @@
--- The definitions one step at a time, as the code goes.
-pub mod Outline

@@ -1,9 +1,0 @@
--- `testing::one` meets its contract.
--- Assumes nothing.
-use mathlib.Core.Path.{refl}
-use Rattle.testing.specs.Testing.{targets_of}
-use Rattle.testing.proofs.one.Goals as goal
-
-pub returns : goal.returns
-unfolding targets_of
-returns c = refl

@@ -1,5 +1,5 @@
 -- The transition at record `at`, as the code answers of it: the ends between which its successors lie, or why it has none.
-use Rattle.std.specs.Prelude.{List, [], Option, None, Some, Bool, cond, ◌&&◌, ℕ, ◌+◌, ℤ}
+use Rattle.std.specs.Prelude.{List, [], Option, None, Some, Bool, true, false, cond, ◌&&◌, ℕ, ◌+◌, ℤ}
 use Rattle.states.specs.Number.{states_between}
 use Rattle.expressions.specs.Expression.{part_at, truth}
 use Rattle.evaluating.specs.declared.Update.{Update}
@@ -35,3 +35,19 @@ step_of lows highs file at state =
     cond (guard_of file at state)
     (cond (all_in_range lows highs (update_list file at state)) (To (ends (lowest_of file at state) (highest_of file at state))) OutOfRange)
     Blocked
+
+-- of such an answer: whether the guard is true, whether the transition is enabled, and the ends, the state as it was for both where it is not
+unfoldable pub guard_in : Stepped → Bool
+guard_in Blocked = false
+guard_in OutOfRange = true
+guard_in (To x) = true
+
+unfoldable pub enabled_in : Stepped → Bool
+enabled_in Blocked = false
+enabled_in OutOfRange = false
+enabled_in (To x) = true
+
+unfoldable pub ends_in : Stepped → List ℤ → Ends
+ends_in Blocked state = ends state state
+ends_in OutOfRange state = ends state state
+ends_in (To x) state = x

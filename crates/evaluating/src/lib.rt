@@ -8,7 +8,7 @@ ghost use Rattle.expressions.specs.Spans.{Spans};
 ghost use Rattle.expressions.specs.Fits.{Fits};
 ghost use Rattle.evaluating.specs.Transition.{assignment_at, pick_at, update_at, updates_from, in_range_of};
 ghost use Rattle.evaluating.specs.Fits.{UpdateFits, UpdatesFit, TransitionFits};
-ghost use Rattle.evaluating.specs.Step.{ends, updated_by, step_of};
+ghost use Rattle.evaluating.specs.Step.{ends, updated_by, step_of, guard_in, enabled_in, ends_in};
 
 use expressions::{number_at, truth_at};
 use integers::state::{between, element};
@@ -37,6 +37,44 @@ pub enum Stepped {
     Blocked,
     OutOfRange,
     To(Ends),
+}
+
+impl Stepped {
+    // Whether its guard is true.
+    #[tactic(auto, unfolding(crate::specs::Step::guard_in))]
+    pub fn guard(self) -> bool
+        ensures { result ≡ guard_in self }
+    {
+        match self {
+            Stepped::Blocked => false,
+            Stepped::OutOfRange | Stepped::To(_) => true,
+        }
+    }
+
+    // Whether it is enabled.
+    #[tactic(auto, unfolding(crate::specs::Step::enabled_in))]
+    pub fn enabled(self) -> bool
+        ensures { result ≡ enabled_in self }
+    {
+        match self {
+            Stepped::Blocked | Stepped::OutOfRange => false,
+            Stepped::To(_) => true,
+        }
+    }
+
+    // The ends between which its successors lie, where it is enabled, else the state that it was asked at for both.
+    #[tactic(auto, unfolding(crate::specs::Step::ends_in))]
+    pub fn ends(self, state: [i16; 12]) -> Ends
+        ensures { result ≡ ends_in self state }
+    {
+        match self {
+            Stepped::Blocked | Stepped::OutOfRange => Ends {
+                low: state,
+                high: state,
+            },
+            Stepped::To(ends) => ends,
+        }
+    }
 }
 
 // Whether x lies in the range of variable i.

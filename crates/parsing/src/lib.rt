@@ -5,7 +5,7 @@ ghost use Rattle.std.specs.Prelude.{◌≡◌, ◌+◌, ◌*◌, ◌≤◌, leng
 ghost use Rattle.parsing.specs.Outline.{nodes_parsed, property_parsed, transitions_parsed, start_parsed, parsed_of};
 
 use records::kinds::Sort;
-use records::walk::{truths, walk};
+use records::walk::{truths, walk_sort};
 use records::{kind_is, zeros};
 use sections::{
     claim_at, edges, expressions, nodes, phases_or, property_fields, transitions, variables,
@@ -86,7 +86,7 @@ fn parse_start(file: &[u8], vars: usize, at: usize) -> Result<Outline, Refusal>
     if !zeros(file, 8 * at + 1, 7) {
         return Err(Refusal::Field(at));
     }
-    parse_transitions(file, vars, walk(file, at + 1, Sort::Truth, vars, 16)?)
+    parse_transitions(file, vars, walk_sort(file, at + 1, Sort::Truth, vars, 16)?)
 }
 
 // Parses a file: refusals 2 to 6 and 19, or where its parts stand.

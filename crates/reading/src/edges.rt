@@ -23,7 +23,8 @@ fn conflict(a: Edge, b: Edge) -> bool
         }
 }
 
-// Whether one of the n edges from record `first` on conflicts with the edge.
+// Whether one of the n edges from record `first` on conflicts with the edge. A call of its own, so that its loop has the registers to itself.
+#[inline(never)]
 fn conflicts(file: &[u8], edge: Edge, first: usize, n: usize) -> bool
     requires { 8 * (first + n) ≤ length file.now }
     ensures { result ≡ any (λ i. conflict_of (edge_at file.now i) edge) n first }

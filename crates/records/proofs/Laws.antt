@@ -7,3 +7,4 @@ pub mod Refuse
 pub mod Place
 pub mod Refused
 pub mod Local
+pub mod Asked

@@ -4,3 +4,4 @@ pub mod Kind
 pub mod Form
 pub mod Walk
 pub mod Place
+pub mod Asked

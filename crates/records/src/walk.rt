@@ -1,6 +1,7 @@
 // The walk of an expression: where it ends, and the refusals 3, 4, 5 and 19 of its records.
 ghost use Rattle.std.specs.Prelude.{◌≡◌, ◌+◌, ◌*◌, ◌≤◌, length};
 ghost use Rattle.records.specs.Walk.{expression_fields, suits, in_sequence, walk_of, truth_of};
+ghost use Rattle.records.specs.Asked.{bare_of, asked_of};
 
 use crate::kinds::{Operands, Sort, signature_at};
 use crate::{value_at, zeros};
@@ -31,7 +32,7 @@ fn suits(file: &[u8], at: usize, want: Sort) -> bool
 }
 
 // Walks the expression asked for as `want`, a sort or a divisor, at record `at`, with `levels` nesting levels left: to the record behind it.
-pub fn walk(
+pub fn walk_sort(
     file: &[u8],
     at: usize,
     want: Sort,
@@ -58,11 +59,42 @@ pub fn walk(
     }
     match signature.operands {
         Operands::Zero => Ok(at + 1),
-        Operands::One(first) => walk(file, at + 1, first, vars, levels - 1),
+        Operands::One(first) => walk_sort(file, at + 1, first, vars, levels - 1),
         Operands::Two(first, second) => {
-            let next = walk(file, at + 1, first, vars, levels - 1)?;
-            walk(file, next, second, vars, levels - 1)
+            let next = walk_sort(file, at + 1, first, vars, levels - 1)?;
+            walk_sort(file, next, second, vars, levels - 1)
         }
+    }
+}
+
+// The record at `at`, where it begins no expression: to the record behind it.
+#[tactic(auto, unfolding(crate::specs::Asked::bare_of))]
+fn bare(file: &[u8], at: usize, vars: usize, levels: usize) -> Result<usize, Refusal>
+    ensures { result ≡ bare_of file.now vars levels at }
+{
+    if file.len() / 8 <= at || signature_at(file, at).sort.is_some() {
+        Err(Refusal::Kind(at))
+    } else if !expression_fields(file, at, vars) {
+        Err(Refusal::Field(at))
+    } else if levels == 0 {
+        Err(Refusal::Limit(at))
+    } else {
+        Ok(at + 1)
+    }
+}
+
+// The same walk, what is asked for given by number: 1 a number, 2 a truth, 3 a divisor; 0 a record that begins no expression. No record stands for
+// another number.
+#[tactic(auto, unfolding(crate::specs::Asked::asked_of))]
+pub fn walk(file: &[u8], at: usize, want: u8, vars: usize, levels: usize) -> Result<usize, Refusal>
+    ensures { result ≡ asked_of file.now vars levels want at }
+{
+    match want {
+        0 => bare(file, at, vars, levels),
+        1 => walk_sort(file, at, Sort::Number, vars, levels),
+        2 => walk_sort(file, at, Sort::Truth, vars, levels),
+        3 => walk_sort(file, at, Sort::Divisor, vars, levels),
+        _ => Err(Refusal::Kind(at)),
     }
 }
 
@@ -72,7 +104,7 @@ pub fn sequence(file: &[u8], sort: Sort, vars: usize, n: usize, at: usize) -> Re
 {
     let mut next = at;
     for _ in 0..n {
-        next = walk(file, next, sort, vars, 16)?;
+        next = walk_sort(file, next, sort, vars, 16)?;
     }
     Ok(next)
 }

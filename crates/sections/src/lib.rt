@@ -11,7 +11,7 @@ ghost use Rattle.sections.specs.Section.{claim_at, phases_fit, phases_or, expres
 
 use item::{Node, Transition, Variable, items, places};
 use records::kinds::Sort;
-use records::walk::{sequence, walk};
+use records::walk::{sequence, walk_sort};
 use records::{byte_at, kind_is, same_bytes, value_at, word_at, zeros};
 use shapes::{Claim, Edge, Refusal, claim_of, property_of};
 
@@ -150,7 +150,7 @@ fn update(file: &[u8], vars: usize, at: usize) -> Result<usize, Refusal>
     if kind_is(file, 0x08, at) {
         Ok(at + 1)
     } else {
-        walk(file, at + 1, Sort::Number, vars, 16)
+        walk_sort(file, at + 1, Sort::Number, vars, 16)
     }
 }
 
@@ -186,7 +186,7 @@ fn transition(file: &[u8], vars: usize, at: usize) -> Result<usize, Refusal>
     requires { (vars ≤ 12) × (at ≤ length file.now) }
     ensures { result ≡ transition_of file.now vars at }
 {
-    updates(file, vars, walk(file, at + 1, Sort::Truth, vars, 16)?)
+    updates(file, vars, walk_sort(file, at + 1, Sort::Truth, vars, 16)?)
 }
 
 // A node behind its first record: its assertion, then its ranks.
@@ -194,7 +194,7 @@ fn node(file: &[u8], vars: usize, ranks: usize, at: usize) -> Result<usize, Refu
     requires { at ≤ length file.now }
     ensures { result ≡ node_of file.now vars ranks at }
 {
-    let end = walk(file, at + 1, Sort::Truth, vars, 16)?;
+    let end = walk_sort(file, at + 1, Sort::Truth, vars, 16)?;
     sequence(file, Sort::Number, vars, ranks, end)
 }
 
@@ -221,7 +221,8 @@ pub fn expressions(file: &[u8], at: usize) -> usize
     if property.entry { 1 + claims } else { claims }
 }
 
-// Whether one of the n edges from `first` on has the a, b and c of the edge at `at`.
+// Whether one of the n edges from `first` on has the a, b and c of the edge at `at`. A call of its own, so that its loop has the registers to itself.
+#[inline(never)]
 fn repeated(file: &[u8], at: usize, first: usize, n: usize) -> bool
     requires { (8 * at + 8 ≤ length file.now) × (first + n ≤ at) }
     ensures { result ≡ repeated_of file.now at first n }

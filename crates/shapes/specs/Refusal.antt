@@ -4,7 +4,7 @@ use Rattle.shapes.specs.declared.Refusal.{Refusal}
 use Rattle.shapes.specs.declared.Refusal.TheVariants.{Buffer, Length, Kind, Field, Limit, Repetition, States, Interval, Edge, NoWayDown}
 use Rattle.shapes.specs.declared.Refusal.TheVariants.{ConditionNumber, StateNumber, Divisor, NoStart, Picks}
 
--- C10.1 to C10.12, C10.19, C10.20, C10.22: its number
+-- for C10.1 to C10.12, C10.19, C10.20, C10.22: its number
 abbrev pub refused_number : Refusal → ℕ
 refused_number Buffer = 1
 refused_number Length = 2
@@ -22,7 +22,7 @@ refused_number (Divisor at) = 19
 refused_number NoStart = 20
 refused_number (Picks at) = 22
 
--- C10.1 to C10.12, C10.19, C10.20, C10.22: its place
+-- for C10.1 to C10.12, C10.19, C10.20, C10.22: its place
 abbrev pub refused_place : Refusal → ℕ
 refused_place Buffer = 0
 refused_place Length = 0

@@ -11,6 +11,8 @@
 --     step_unheld                   of a step out of range the guard is true and the transition is not enabled
 --     step_idle, step_held         where it has no ends, it is not enabled; where it is not out of range, it is enabled if its guard is true
 --     step_ends                    where it is, the ends between which its successors lie
+--     step_guard, step_enabled     what an answer says of the guard, and of whether the transition is enabled
+--     step_low, step_high          and the ends, the state as it was for both where it is not
 -- Assumes nothing.
 use mathlib.Core.Path.{◌≡◌, refl, sym, subst}
 use mathlib.Core.Bool.{Bool, true, false, cond, ◌&&◌, and-eq-true_iff}
@@ -32,7 +34,7 @@ use Rattle.evaluating.specs.declared.Ends.{Ends}
 use Rattle.evaluating.specs.declared.Stepped.{Stepped}
 use Rattle.evaluating.specs.declared.Stepped.TheVariants.{Blocked, OutOfRange, To}
 use Rattle.evaluating.specs.Transition.{update_list, all_in_range, lowest, highest}
-use Rattle.evaluating.specs.Step.{guard_of, enabled_of, lowest_of, highest_of, successors_of, ends, step_of}
+use Rattle.evaluating.specs.Step.{guard_of, enabled_of, lowest_of, highest_of, successors_of, ends, step_of, guard_in, enabled_in, ends_in}
 use Rattle.evaluating.specs.Fits.{TransitionFits}
 use Rattle.evaluating.proofs.Laws.Transition.{lowest_within, highest_within, between_ranges, list_from, list_ordered}
 
@@ -130,6 +132,26 @@ module _ (lows highs : List ℤ) (file : List ℕ) (at : ℕ) (state : List ℤ)
   pub step_out : OutOfRange ≡ step_of lows highs file at state → Said true false
   unfolding enabled_of
   step_out is = step_by (λ s. OutOfRange ≡ s → Said true false) (λ e d. cc) (λ e f d. (e, rw (e, f))) (λ e d. cc) is
+
+  pub step_guard : guard_in (step_of lows highs file at state) ≡ guard_of file at state
+  unfolding guard_in
+  step_guard = step_by (λ s. guard_in s ≡ guard_of file at state) (λ e. sym e) (λ e f. sym e) (λ e. sym (enabled_both lows highs file at state e).0)
+
+  pub step_enabled : enabled_in (step_of lows highs file at state) ≡ enabled_of lows highs file at state
+  unfolding enabled_in enabled_of
+  step_enabled = step_by (λ s. enabled_in s ≡ enabled_of lows highs file at state) (λ e. rw e) (λ e f. rw (e, f)) (λ e. sym e)
+
+  pub step_low : (ends_in (step_of lows highs file at state) state).low ≡ cond (enabled_of lows highs file at state) (lowest_of file at state) state
+  unfolding ends_in enabled_of
+  step_low =
+      step_by (λ s. (ends_in s state).low ≡ cond (enabled_of lows highs file at state) (lowest_of file at state) state) (λ e. rw e) (λ e f. rw (e, f))
+      (λ e. rw e)
+
+  pub step_high : (ends_in (step_of lows highs file at state) state).high ≡ cond (enabled_of lows highs file at state) (highest_of file at state) state
+  unfolding ends_in enabled_of
+  step_high =
+      step_by (λ s. (ends_in s state).high ≡ cond (enabled_of lows highs file at state) (highest_of file at state) state) (λ e. rw e) (λ e f. rw (e, f))
+      (λ e. rw e)
 
   -- of one out of range
   pub step_unheld : OutOfRange ≡ step_of lows highs file at state → implies (guard_of file at state) (enabled_of lows highs file at state) ≡ false

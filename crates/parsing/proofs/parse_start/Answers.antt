@@ -15,9 +15,9 @@ pub returns-then-not-zeros : goal.returns-then-not-zeros
 unfolding start_parsed
 returns-then-not-zeros c = grind (arith, common_steps)
 
-pub returns-in_err-walk : goal.returns-in_err-walk
+pub returns-in_err-walk_sort : goal.returns-in_err-walk_sort
 unfolding start_parsed
-returns-in_err-walk c = grind (arith, common_steps)
+returns-in_err-walk_sort c = grind (arith, common_steps)
 
 pub returns : goal.returns
 unfolding start_parsed

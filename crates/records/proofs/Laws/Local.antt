@@ -24,7 +24,7 @@ use Rattle.records.specs.Record.{value, kind_at, field_a, value_b, value_c, zero
 use Rattle.records.specs.Kind.{sort_for, signature_at}
 use Rattle.records.specs.Walk.{Walked, expression_fields, suits, in_sequence, operands_of, record_then, divisor_then, walk_of, span}
 use Rattle.records.proofs.Laws.Kind.{is_sort-one}
-use Rattle.records.proofs.Laws.Walk.{walk_opens, walk_suits, walk_deepest, walk_bound, First, operands_one, operands_two}
+use Rattle.records.proofs.Laws.Walk.{walk_opens, walk_suits, walk_deepest, walk_bound, First, operands_none, operands_one, operands_two}
 use Rattle.records.proofs.Laws.Span.{walk_span}
 
 -- ---- records that are the same
@@ -168,11 +168,6 @@ module _ (file file' : List ℕ) (vars levels at at' n : ℕ) (same : records_of
         second = copied b (1 + k) (at + n - y) y (at + n) (omega arith) (omega arith) (omega arith) f.rest;
       }
 
--- no operands that end
-ends_none : (walk : Sort → ℕ → Walked) (at end : ℕ) → operands_of walk Zero at ≡ Ok end → at ≡ end
-unfolding operands_of
-ends_none walk at end e = cc
-
 pub copy_opens : (file file' : List ℕ) (vars levels : ℕ) (want : Sort) (at at' n : ℕ) → Copy file file' vars (suc levels) want at at' n
     → CopiedRecord file file' vars levels want at at' n
 copy_opens file file' vars levels want at at' n c =
@@ -187,7 +182,7 @@ copy_opens file file' vars levels want at at' n c =
       fields = o.right;
       suits = walk_suits file vars levels want at (at + n) c.walks;
       byte = rw (add-zero, add-zero) at (same_record file file' at at' n c.same 0 (omega arith));
-      none = λ m. let z : at + 1 ≡ at + n = ends_none walk (at + 1) (at + n) (rw m at o.operands) in omega arith;
+      none = λ m. let z : at + 1 ≡ at + n = operands_none walk (at + 1) (at + n) (rw m at o.operands) in omega arith;
       one = λ m. one_by file file' vars levels at at' n c.same _ (operands_one walk (at + 1) (at + n) _ (rw m at o.operands));
       two = λ m. two_by file file' vars levels at at' n c.same _ _ (operands_two walk (at + 1) (at + n) (rw m at o.operands));
     }

@@ -6,7 +6,7 @@
 --     sequence_none, sequence_next        no part, and one behind a part that ends
 --     sequence_first, sequence_one        parts in sequence that end, from the first on
 --     sequence_induct, sequence_bound     by induction over them: they end within the file too
---     operands_one, operands_two   a record's operands that end
+--     operands_none, operands_one, operands_two     a record's operands that end, by how many there are
 -- Assumes nothing.
 use mathlib.Core.Path.{◌≡◌, refl, sym, ◌∙◌}
 use mathlib.Core.Bool.{Bool, true, false, cond, ◌&&◌, and-eq-true_iff}
@@ -131,6 +131,10 @@ sequence_bound part most bound n at end l e =
 
 -- ---- a record's operands, that end at `end`
 module _ (part : Sort → ℕ → Walked) (at end : ℕ) where
+  pub operands_none : operands_of part Zero at ≡ Ok end → at ≡ end
+  unfolding operands_of
+  operands_none e = cc
+
   pub operands_one : (a : Sort) → operands_of part (One a) at ≡ Ok end → part a at ≡ Ok end
   unfolding operands_of
   operands_one a e = e

@@ -5,9 +5,9 @@ use Rattle.std.proofs.lemmas.Grind.{common_steps}
 use Rattle.sections.specs.Section.{transition_of}
 use Rattle.sections.proofs.transition.Goals as goal
 
-pub returns-in_err-walk : goal.returns-in_err-walk
+pub returns-in_err-walk_sort : goal.returns-in_err-walk_sort
 unfolding transition_of
-returns-in_err-walk c = grind (arith, common_steps)
+returns-in_err-walk_sort c = grind (arith, common_steps)
 
 pub returns : goal.returns
 unfolding transition_of

@@ -1,9 +1,9 @@
--- `records::walk::walk` meets its contract, by the tests in their order. The measure is the levels left. Assumes nothing.
+-- `records::walk::walk_sort` meets its contract, by the tests in their order. The measure is the levels left. Assumes nothing.
 use mathlib.Core.Path.{sym, ◌∙◌}
 use Rattle.std.proofs.lemmas.Result.{err_from_is_err_and}
 use Rattle.records.proofs.Steps.Walk.{operands_none, operands_one, operands_two, operands_refused, sort_fits, sort_unfit, walk_short, walk_unfit}
 use Rattle.records.proofs.Steps.Walk.{walk_field, walk_deep, walk_divisor, walk_step}
-use Rattle.records.proofs.walk.+walk.Goals as goal
+use Rattle.records.proofs.walk.+walk_sort.Goals as goal
 
 pub returns-then-file-at : goal.returns-then-file-at
 returns-then-file-at t c = walk_short _ _ _ _ _ c.if-file-at.true
@@ -36,7 +36,7 @@ returns-in-One t c =
     operands_one _
     (walk_step _ _ _ _ _ c.signature_at-signature.ensures c.if-file-at.false (sort_fits _ _ c.stands.ensures c.ne.ensures c.if-ne.false) c.expression_fields.ensures c.if-not-expression_fields.false-raw c.suits.ensures _ c.if-levels-eq0.false
     c.if-not-suits.false-raw)
-    c.in-One.is c.walk.ensures
+    c.in-One.is c.walk_sort.ensures
 
 pub returns-in_err-next-in-Two : goal.returns-in_err-next-in-Two
 returns-in_err-next-in-Two t c =
@@ -45,11 +45,11 @@ returns-in_err-next-in-Two t c =
     (operands_refused _
     (walk_step _ _ _ _ _ c.signature_at-signature.ensures c.if-file-at.false (sort_fits _ _ c.stands.ensures c.ne.ensures c.if-ne.false) c.expression_fields.ensures c.if-not-expression_fields.false-raw c.suits.ensures _ c.if-levels-eq0.false
     c.if-not-suits.false-raw)
-    c.in-Two.is c.walk-in-Two.ensures c.in_err-next-in-Two.was)
+    c.in-Two.is c.walk_sort-in-Two.ensures c.in_err-next-in-Two.was)
 
 pub returns-in_ok-next-in-Two : goal.returns-in_ok-next-in-Two
 returns-in_ok-next-in-Two t c =
     operands_two _
     (walk_step _ _ _ _ _ c.signature_at-signature.ensures c.if-file-at.false (sort_fits _ _ c.stands.ensures c.ne.ensures c.if-ne.false) c.expression_fields.ensures c.if-not-expression_fields.false-raw c.suits.ensures _ c.if-levels-eq0.false
     c.if-not-suits.false-raw)
-    c.in-Two.is c.walk-in-Two.ensures c.in_ok-next-in-Two.was c.walk-in-Two-2.ensures
+    c.in-Two.is c.walk_sort-in-Two.ensures c.in_ok-next-in-Two.was c.walk_sort-in-Two-2.ensures

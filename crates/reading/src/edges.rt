@@ -23,13 +23,22 @@ fn conflict(a: Edge, b: Edge) -> bool
         }
 }
 
+// Whether the edge at `at` conflicts with that one. Where it leads from is read and compared first, as most edges differ there.
+#[tactic(auto, unfolding(crate::specs::Edge::conflict_of))]
+fn conflict_at(file: &[u8], at: usize, edge: Edge) -> bool
+    requires { 8 * at + 8 ≤ length file.now }
+    ensures { result ≡ conflict_of (edge_at file.now at) edge }
+{
+    edge_at(file, at).from == edge.from && conflict(edge_at(file, at), edge)
+}
+
 // Whether one of the n edges from record `first` on conflicts with the edge. A call of its own, so that its loop has the registers to itself.
 #[inline(never)]
 fn conflicts(file: &[u8], edge: Edge, first: usize, n: usize) -> bool
     requires { 8 * (first + n) ≤ length file.now }
     ensures { result ≡ any (λ i. conflict_of (edge_at file.now i) edge) n first }
 {
-    (first..first + n).any(|at| conflict(edge_at(file, at), edge))
+    (first..first + n).any(|at| conflict_at(file, at, edge))
 }
 
 // Whether transition t is just, where `places` has the transitions' records.

@@ -43,10 +43,11 @@ pub fn zeros(file: &[u8], from: usize, n: usize) -> bool
     requires { from + n ≤ length file.now }
     ensures { result ≡ zeros_of file.now from n }
 {
-    file[from..from + n].iter().all(|byte| *byte == 0)
+    (from..from + n).all(|at| file[at] == 0)
 }
 
-// Whether the n bytes from i on are those from j on.
+// Whether the n bytes from i on are those from j on. The laws that the proof may use serve a comparison in parts too.
+#[tactic(auto, using(crate::proofs::Steps::Record::same_parts, crate::proofs::Laws::Record::bytes_joined))]
 pub fn same_bytes(file: &[u8], i: usize, j: usize, n: usize) -> bool
     requires { (i + n ≤ length file.now) × (j + n ≤ length file.now) }
     ensures { result ≡ same_bytes file.now i j n }

@@ -1,6 +1,8 @@
 -- `intervals::analyse`: the record at hand is judged by its operands, each by a call with one level less. The measure is the levels left.
 -- Assumes nothing.
 use mathlib.Core.Path.{sym}
+use Prim.Native.Nat.{◌-◌}
+use Rattle.std.proofs.Common.{rules}
 use Rattle.std.proofs.lemmas.Result.{err_from_is_err_and}
 use Rattle.intervals.proofs.Steps.Interval.{analyse_deep, analyse_short, analyse_leaf, analyse_one_refused, analyse_one, analyse_left_refused}
 use Rattle.intervals.proofs.Steps.Interval.{analyse_right_refused, analyse_two}
@@ -48,18 +50,20 @@ returns-in_err-right-in-Two t c =
     let p = err_from_is_err_and c.from_residual-in_err-right-in-Two.result c.from_residual-in_err-right-in-Two.ensures.1 in
     let step =
     analyse_right_refused _ _ _ _ c.signature_of.ensures c.if-file-at.false c.if-levels-eq0.false c.in-Two.is
-    _ (sym c.in_ok-left-in-Two.ensures) _ (sym c.in_err-right-in-Two.ensures) in
+    _ (sym c.in_ok-left-in-Two.ensures) c.in_err-right-in-Two.field-0.0 (search rules) in
     cc
 
 pub join-requires-clause-left : goal.join-requires-clause-left
 join-requires-clause-left t c = analysis_bounded _ _ _ _ _ (sym c.in_ok-left-in-Two.ensures)
 
 pub join-requires-clause-right : goal.join-requires-clause-right
-join-requires-clause-right t c = analysis_bounded _ _ _ _ _ (sym c.in_ok-right-in-Two.ensures)
+join-requires-clause-right t c =
+    let right = c.in_ok-right-in-Two.right in
+    analysis_bounded right.interval right.end c.args.file.now (c.args.levels - 1) c.in_ok-left-in-Two.left.end (search rules)
 
 pub returns-in_ok-right-in-Two : goal.returns-in_ok-right-in-Two
 returns-in_ok-right-in-Two t c =
     let step =
     analyse_two _ _ _ _ c.signature_of.ensures c.if-file-at.false c.if-levels-eq0.false c.in-Two.is
-    _ (sym c.in_ok-left-in-Two.ensures) _ (sym c.in_ok-right-in-Two.ensures) in
+    _ (sym c.in_ok-left-in-Two.ensures) c.in_ok-right-in-Two.right (search rules) in
     cc

@@ -1,10 +1,11 @@
 -- Laws of the tests of a record.
 --     kind_is_lem                    a record that passes the test of its kind is there, and has that kind
 --     bytes_none, bytes_next     bytes are the same where there are none, and where the first are and the others
+--     bytes_joined               so are those of two parts, one behind the other, that are the same
 --     word_bytes                 so are those of two words that are the same
 -- Assumes nothing.
-use mathlib.Core.Path.{◌≡◌, refl}
-use mathlib.Core.Bool.{true, and-eq-true_iff}
+use mathlib.Core.Path.{◌≡◌, refl, ap, ◌∙◌}
+use mathlib.Core.Bool.{Bool, true, ◌&&◌, and-eq-true_iff, and_assoc}
 use mathlib.Core.List.{List}
 use Prim.Native.Nat.{ℕ, zero, suc, ◌+◌, ◌/◌, ◌<◌}
 use native.Mathlib.Omega.{arith}
@@ -42,3 +43,24 @@ module _ (file : List ℕ) (i j : ℕ) where
       let q = byte (j + c) in
       let w = rw (y, z) at e in
       (omega arith, omega arith)
+
+-- ---- bytes in two parts
+module _ (file : List ℕ) where
+  in_parts : (i j m n : ℕ) → (same_bytes file i j m && same_bytes file (i + m) (j + m) n) ≡ same_bytes file i j (m + n)
+  unfolding same_bytes
+  in_parts i j zero n =
+      let x : i + 0 ≡ i = omega arith in
+      let y : j + 0 ≡ j = omega arith in
+      let z : 0 + n ≡ n = omega arith in
+      rw (x, y, z)
+  in_parts i j (suc m) n =
+      let first = eqb (get_or file i 0) (get_or file j 0) in
+      let x : i + suc m ≡ i + 1 + m = omega arith in
+      let y : j + suc m ≡ j + 1 + m = omega arith in
+      let z : suc m + n ≡ suc (m + n) = omega arith in
+      rw (x, y, z)
+      (and_assoc first (same_bytes file (i + 1) (j + 1) m) (same_bytes file (i + 1 + m) (j + 1 + m) n)
+      ∙ ap (λ (b : Bool). first && b) (in_parts (i + 1) (j + 1) m n))
+
+  pub bytes_joined : (i j k l m n : ℕ) → k ≡ i + m → l ≡ j + m → (same_bytes file i j m && same_bytes file k l n) ≡ same_bytes file i j (m + n)
+  bytes_joined i j k l m n e f = rw (e, f) (in_parts i j m n)

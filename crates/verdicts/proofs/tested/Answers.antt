@@ -1,6 +1,7 @@
 -- `verdicts::tested` meets its contract: the condition's test at the state of the number.
 -- Assumes nothing.
 use mathlib.Core.Path.{sym}
+use Rattle.std.proofs.Common.{rules}
 use native.Mathlib.Omega.{arith}
 use Rattle.verdicts.proofs.Steps.Verdict.{Ready, test_asks, state_asks, single_asks, single_answers, tested_eleven, tested_twelve}
 use Rattle.verdicts.proofs.tested.Goals as goal
@@ -42,4 +43,4 @@ returns c =
     let ready : Ready c.args.file.now c.args.diagram c.total.result = record { loaded = c.requires.loaded; total_is = c.total.ensures } in
     let answers = single_answers ready c.if-total-condition.false c.condition_at.ensures c.test_of-test.ensures c.if-diagram-state.false
     c.state_of-s.ensures c.passes.ensures in
-    sym answers
+    search (rules, answers)
